@@ -1,0 +1,9 @@
+// The plan text: reader and writer.
+use answers::Answer;
+use plan::Plan;
+
+// The plan that was read, or a refusal beside the blank plan.
+pub struct PlanRead {
+    pub answer: Answer,
+    pub plan: Plan,
+}

@@ -1,0 +1,142 @@
+-- The starred sums of document 01: one list, one theorem, by computation.
+use Prim.Native.Nat.{ℕ}
+use mathlib.Core.Path.{_≡_, refl}
+use mathlib.Core.List.{List, [], _∷_, map}
+use lib.IntN.{ℤ, pos, negsuc}
+use lib.ListN.{length, take}
+use Rattle.plan.specs.declared.Level.the-variants.{Lo, Hi}
+use Rattle.plan.specs.declared.Job.{Job}
+use Rattle.plan.specs.declared.Plan.{Plan}
+use Rattle.answers.specs.declared.Answer.the-variants.{Accepted, Overfull, Overdrawn}
+use Rattle.words.specs.Words.{filled}
+use Rattle.plan.specs.Limits.{maxJobs, maxSlots}
+use Rattle.plan.specs.Plan.{blankJob}
+use Rattle.intervals.specs.Intervals.{intervals}
+use Rattle.intervals.specs.Spares.{row}
+use Rattle.acceptance.specs.Acceptance.{acceptance}
+use Rattle.acceptance.specs.Analysis.{hiAtStart, loAtStart}
+use Rattle.executive.specs.declared.Standing.the-variants.{Dropped}
+use Rattle.executive.specs.declared.Phase.the-variants.{T, H}
+use Rattle.executive.specs.declared.Slot.{Slot}
+use Rattle.executive.specs.declared.Kind.{Kind}
+use Rattle.executive.specs.declared.Kind.the-variants.{End, More, None}
+use Rattle.executive.specs.declared.Run.{Run}
+use Rattle.executive.specs.Run.{start, entryNo, currentHi, currentLo}
+use Rattle.executive.specs.Choice.{chosen}
+use Rattle.executive.specs.Step.{step}
+use Rattle.promises.specs.Compute.{everything}
+
+-- ---- the plans, written as the document writes them
+
+abbrev pub HI : ℕ → ℕ → ℕ → ℕ → Job
+HI r d lo hi = record { level = Hi; release = r; deadline = d; lo = lo; hi = hi }
+
+abbrev pub LO : ℕ → ℕ → ℕ → ℕ → Job
+LO r d lo hi = record { level = Lo; release = r; deadline = d; lo = lo; hi = hi }
+
+abbrev pub plan : ℕ → List Job → List ℕ → Plan
+plan N js table = record { slots = N; jobs = length js; job = filled maxJobs blankJob js; table = filled maxSlots 0 table }
+
+abbrev pub A : Plan
+A = plan 8 (HI 0 8 2 4 ∷ LO 0 4 2 2 ∷ []) (2 ∷ 1 ∷ 2 ∷ 1 ∷ [])
+
+abbrev pub B : ℕ → Plan
+B h = plan 4 (LO 0 2 2 2 ∷ HI 0 4 1 h ∷ []) (1 ∷ 1 ∷ 2 ∷ [])
+
+abbrev pub C : Plan
+C = plan 8 (HI 0 6 1 5 ∷ LO 0 4 3 3 ∷ []) (1 ∷ 2 ∷ 2 ∷ 2 ∷ [])
+
+-- one job HI, 2, 4, 1, h, table with slot 2 its own
+abbrev pub one : ℕ → Plan
+one h = plan 8 (HI 2 4 1 h ∷ []) (0 ∷ 0 ∷ 1 ∷ [])
+
+abbrev pub borrowing : Plan
+borrowing = plan 12 (HI 5 8 1 1 ∷ HI 0 12 10 10 ∷ []) []
+
+-- ---- what is read off
+
+-- the intervals as start and end
+abbrev pub spans : Plan → List (List ℕ)
+spans p = map (λ x. x .start ∷ x .end ∷ []) (intervals p)
+
+-- the spares at border 0, one per interval
+abbrev pub hiSpares : Plan → List ℤ
+hiSpares p = take (length (intervals p)) (row p 0 (hiAtStart p))
+
+abbrev pub loSpares : Plan → List ℤ
+loSpares p = take (length (intervals p)) (row p 0 (loAtStart p))
+
+-- the run after reports for slots 0, 1, and so on, and what was chosen for each
+unfoldable pub goneOn : Run → List Kind → Run
+goneOn r [] = r
+goneOn r (kind ∷ kinds) = goneOn (step r (record { slot = r .t; kind = kind }) .run) kinds
+
+unfoldable pub ran : Run → List Kind → List Slot
+ran r [] = []
+ran r (kind ∷ kinds) = chosen r ∷ ran (step r (record { slot = r .t; kind = kind }) .run) kinds
+
+abbrev pub after : Plan → List Kind → Run
+after p kinds = goneOn (start p .run) kinds
+
+-- ---- the list
+
+abbrev pub All : List (Type 0) → Type 0
+All [] = Unit {0}
+All (P ∷ Ps) = P × All Ps
+
+infixr 5 _&_
+abbrev pub _&_ : {P Q : Type 0} → P → Q → P × Q
+p & q = (p, q)
+
+abbrev pub sums : List (Type 0)
+sums =
+    -- A: intervals 0-4 and 4-8; HI spares 4, 0; LO spares 2, 2
+    (spans A ≡ (0 ∷ 4 ∷ []) ∷ (4 ∷ 8 ∷ []) ∷ [])
+    ∷ (hiSpares A ≡ pos 4 ∷ pos 0 ∷ [])
+    ∷ (loSpares A ≡ pos 2 ∷ pos 2 ∷ [])
+    -- A, border 1 after the LO job: HI 3, LO 2
+    ∷ (ran (start A .run) (More ∷ []) ≡ Slot.Job 2 ∷ [])
+    ∷ (currentHi (after A (More ∷ [])) ≡ pos 3)
+    ∷ (currentLo (after A (More ∷ [])) ≡ pos 2)
+    -- B(2) accepted, B(3) refused 9 at 2, B(4) refused 9 at 1
+    ∷ (acceptance (B 2) ≡ Accepted)
+    ∷ (acceptance (B 3) ≡ Overdrawn 2)
+    ∷ (acceptance (B 4) ≡ Overdrawn 1)
+    -- one job with hi 3: refused 8 at 2, 4; with hi 2: accepted
+    ∷ (acceptance (one 3) ≡ Overfull 2 4)
+    ∷ (acceptance (one 2) ≡ Accepted)
+    -- N = 12: intervals 0-5, 5-8, 8-12; HI spares 1, -4, -6
+    ∷ (spans borrowing ≡ (0 ∷ 5 ∷ []) ∷ (5 ∷ 8 ∷ []) ∷ (8 ∷ 12 ∷ []) ∷ [])
+    ∷ (hiSpares borrowing ≡ pos 1 ∷ negsuc 3 ∷ negsuc 5 ∷ [])
+    -- C: spares 1, 1 at border 0; reports more, more, end: the jobs run are 1, 2, 1
+    ∷ (currentHi (start C .run) ≡ pos 1)
+    ∷ (currentLo (start C .run) ≡ pos 1)
+    ∷ (ran (start C .run) (More ∷ More ∷ End ∷ []) ≡ Slot.Job 1 ∷ Slot.Job 2 ∷ Slot.Job 1 ∷ [])
+    -- slot 3 then idles in phase H, spares HI 1, LO -1
+    ∷ (chosen (after C (More ∷ More ∷ End ∷ [])) ≡ Slot.Idle)
+    ∷ (after C (More ∷ More ∷ End ∷ []) .phase ≡ H)
+    ∷ (currentHi (after C (More ∷ More ∷ End ∷ [])) ≡ pos 1)
+    ∷ (currentLo (after C (More ∷ More ∷ End ∷ [])) ≡ negsuc 0)
+    -- at border 4 job 2 is dropped with 1 slot given and the phase is T
+    ∷ (after C (More ∷ More ∷ End ∷ None ∷ []) .t ≡ 4)
+    ∷ (entryNo (after C (More ∷ More ∷ End ∷ None ∷ [])) 2 ≡ record { standing = Dropped 4; given = 1 })
+    ∷ (after C (More ∷ More ∷ End ∷ None ∷ []) .phase ≡ T)
+    -- A, job 2 ending in slot 0: job 1 gets slots 1 and 2; with two `more` phase H begins at border 3
+    ∷ (ran (start A .run) (End ∷ More ∷ More ∷ []) ≡ Slot.Job 2 ∷ Slot.Job 1 ∷ Slot.Job 1 ∷ [])
+    ∷ (after A (End ∷ More ∷ []) .phase ≡ T)
+    ∷ (after A (End ∷ More ∷ More ∷ []) .phase ≡ H)
+    ∷ []
+
+pub sums-hold : All sums
+unfolding everything goneOn ran
+sums-hold =
+    refl & refl & refl
+    & refl & refl & refl
+    & refl & refl & refl
+    & refl & refl
+    & refl & refl
+    & refl & refl & refl
+    & refl & refl & refl & refl
+    & refl & refl & refl
+    & refl & refl & refl
+    & tt

@@ -1,0 +1,1 @@
+// The demands as theorems: specs/ has them. No code.

@@ -1,0 +1,1 @@
+// The theory of work in windows: specs/ has it. No code.

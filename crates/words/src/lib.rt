@@ -1,0 +1,1 @@
+// The words of every definition: specs/ has them. No code.
