@@ -9,7 +9,7 @@ use Rattle.answers.specs.declared.Answer.the-variants.{Accepted}
 use Rattle.answers.specs.Answer.{accepted}
 use Rattle.plan.specs.declared.Plan.{Plan}
 use Rattle.plan.specs.Plan.{jobsOf}
-use Rattle.intervals.specs.declared.Interval.{Interval}
+use Rattle.intervals.specs.Layout.{blankInterval}
 use Rattle.intervals.specs.Intervals.{maxIntervals, intervals}
 use Rattle.intervals.specs.Spares.{hiLeft, loLeft, row, noSpares}
 use Rattle.acceptance.specs.declared.Analysis.{Analysis}
@@ -21,9 +21,6 @@ hiAtStart p = map (λ j. hiLeft j true 0) (jobsOf p)
 
 abbrev pub loAtStart : Plan → List ℕ
 loAtStart p = map (λ j. loLeft j true 0) (jobsOf p)
-
-abbrev pub blankInterval : Interval
-blankInterval = record { start = 0; end = 0 }
 
 -- a refused analysis gives no intervals and spares of 0
 abbrev pub refusedAnalysis : Answer → Analysis

@@ -1,2 +1,3 @@
 pub mod Intervals
 pub mod Spares
+pub mod Layout

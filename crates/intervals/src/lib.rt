@@ -7,3 +7,10 @@ pub struct Interval {
     pub start: u16,
     pub end: u16,
 }
+
+// A plan's intervals, worked out once: how many, which, and for each job the place of its own.
+pub struct Layout {
+    pub count: u16,
+    pub interval: [Interval; INTERVALS],
+    pub home: [u16; plan::JOBS],
+}
