@@ -7,7 +7,7 @@ use Rattle.answers.specs.declared.Answer.the-variants.{Accepted, Written
 use Rattle.words.specs.Words.{if_then_else_, _=?_}
 
 -- the table's column "No."
-unfoldable pub numberOf : Answer → ℕ
+abbrev pub numberOf : Answer → ℕ
 numberOf Accepted = 0
 numberOf (Written bytes) = 0
 numberOf (Form line) = 1
@@ -26,7 +26,7 @@ numberOf (WrongKind t) = 13
 numberOf (NoRoom bytes) = 14
 
 -- its column "Place"
-unfoldable pub placesOf : Answer → List ℕ
+abbrev pub placesOf : Answer → List ℕ
 placesOf Accepted = 0 ∷ []
 placesOf (Written bytes) = bytes ∷ []
 placesOf (Form line) = line ∷ []
