@@ -1,3 +1,5 @@
 pub mod Compute
 pub mod Sums
 pub mod Demands
+pub mod Refused
+pub mod Shams

@@ -1,0 +1,76 @@
+-- How tight the promises are: no second result meets one, and each sham version of the product is shut out by a theorem of its name.
+use Prim.Native.Nat.{ℕ, _≤_}
+use native.Mathlib.Omega.{arith}
+use mathlib.Core.Path.{_≡_, sym, ap, _∙_}
+use mathlib.Core.List.{List, [], _∷_}
+use lib.ListN.{getD}
+use Rattle.plan.specs.declared.Plan.{Plan}
+use Rattle.answers.specs.declared.Answer.{Answer}
+use Rattle.answers.specs.declared.Answer.the-variants.{Accepted, Overdrawn}
+use Rattle.acceptance.specs.Analysis.{analysis}
+use Rattle.executive.specs.declared.Entry.{Entry}
+use Rattle.executive.specs.declared.Run.{Run}
+use Rattle.executive.specs.declared.Slot.{Slot}
+use Rattle.executive.specs.declared.Kind.the-variants.{More}
+use Rattle.executive.specs.declared.Report.{Report}
+use Rattle.executive.specs.Run.{start, freshEntry}
+use Rattle.executive.specs.Choice.{choose}
+use Rattle.executive.specs.Step.{step}
+use Rattle.promises.specs.Compute.{everything}
+use Rattle.promises.specs.Sums.{A, B, after, goneOn}
+
+-- a promise that names its result as a definition's value has one result
+pub one-result : {X : Type 0} (promised r s : X) → r ≡ promised → s ≡ promised → r ≡ s
+one-result promised r s p q = p ∙ sym q
+
+-- ---- the analysis
+
+-- one that refuses every plan: A is accepted
+pub refuses-every-plan : (sham : Plan → Answer) → ((p : Plan) → sham p ≡ Accepted → ⊥) → ((p : Plan) → sham p ≡ analysis p .answer) → ⊥
+unfolding everything
+refuses-every-plan sham refuses same = refuses A (same A)
+
+-- one that accepts every plan: B(3) is refused
+pub accepts-every-plan : (sham : Plan → Answer) → ((p : Plan) → sham p ≡ Accepted) → ((p : Plan) → sham p ≡ analysis p .answer) → ⊥
+unfolding everything
+accepts-every-plan sham accepts same =
+    let w : Accepted ≡ Overdrawn 2 = sym (accepts (B 3)) ∙ same (B 3) in
+    let z : _≡_ {A = ℕ} 0 1 = cc w in
+    omega arith
+
+-- ---- the choice
+
+-- one that always idles: slot 0 of A is job 2's
+pub always-idles : ((r : Run) → choose r .slot ≡ Slot.Idle) → ⊥
+unfolding everything
+always-idles same =
+    let w : Slot.Job 2 ≡ Slot.Idle = same (start A .run) in
+    let z : _≡_ {A = ℕ} 0 1 = cc w in
+    omega arith
+
+-- one that always names the same job: slots 0 and 1 of A are job 2's and job 1's
+pub always-one-job : (k : ℕ) → ((r : Run) → choose r .slot ≡ Slot.Job k) → ⊥
+unfolding everything goneOn
+always-one-job k same =
+    let first : Slot.Job 2 ≡ Slot.Job k = same (start A .run) in
+    let second : Slot.Job 1 ≡ Slot.Job k = same (after A (More ∷ [])) in
+    let z : _≡_ {A = ℕ} 2 1 = cc (first, second) in
+    omega arith
+
+-- ---- the step
+
+-- one that hands back the run untouched: t grows
+pub hands-back-the-run : ((r : Run) (report : Report) → step r report .run ≡ r) → ⊥
+unfolding everything
+hands-back-the-run same =
+    let w : _≡_ {A = ℕ} 1 0 = ap (λ (r : Run). r .t) (same (start A .run) (record { slot = 0; kind = More })) in
+    omega arith
+
+-- one that works slot 0 properly and only advances the clock later: slot 1 of A is given to job 1
+pub only-advances-the-clock : ((r : Run) (report : Report) → 1 ≤ r .t → step r report .run .job ≡ r .job) → ⊥
+unfolding everything goneOn
+only-advances-the-clock same =
+    let after-1 : Run = after A (More ∷ []) in
+    let later : step after-1 (record { slot = 1; kind = More }) .run .job ≡ after-1 .job = same after-1 (record { slot = 1; kind = More }) (omega arith) in
+    let w : _≡_ {A = ℕ} 1 0 = ap (λ (es : List Entry). getD es 0 freshEntry .given) later in
+    omega arith
