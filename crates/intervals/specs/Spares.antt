@@ -37,7 +37,7 @@ nextSpare (z ∷ zs) = z
 
 -- spare = (end - larger of start and t) - remaining + smaller of (next spare, 0); a past interval has 0
 unfoldable pub spare : ℕ → Interval → ℕ → ℤ → ℤ
-spare t x work next = if x .end ≤? t then pos 0 else subℕ (x .end - max (x .start) t) work +ℤ atMost0 next
+spare t x work next = if x .end ≤? t then pos 0 else (subℕ (x .end - max (x .start) t) work +ℤ atMost0 next)
 
 -- the spares of the intervals in order, worked out last first
 unfoldable pub spares : ℕ → List Job → List ℕ → List Interval → List ℤ
