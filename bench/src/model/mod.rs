@@ -1,0 +1,16 @@
+//! Document 01 in plain Rust, written from its text alone: what the proved runtime is compared with.
+//! It shares no code and no definition with the proved crates.
+
+pub mod acceptance;
+pub mod intervals;
+pub mod plan;
+pub mod programs;
+pub mod run;
+pub mod text;
+
+pub use acceptance::{analyse, well_formed, Analysis};
+pub use intervals::{Interval, Layout, Row, INTERVALS};
+pub use plan::{Job, Level, Plan, Refusal, JOBS, SLOTS};
+pub use programs::{check_output, run_output};
+pub use run::{Choice, Entry, Kind, Phase, Report, Run, Slot, Standing};
+pub use text::{read_plan, read_prefix, write_plan};

@@ -1,0 +1,263 @@
+//! The executive: a run's record, its coherence, the choice for a slot, and one step.
+
+use super::acceptance::{analyse, well_formed};
+use super::intervals::{Layout, Row, INTERVALS};
+use super::plan::{Job, Plan, Refusal, JOBS};
+
+/// T follows the table; H is entered by an overrun.
+#[derive(Clone, Copy, Debug, PartialEq, Eq)]
+pub enum Phase {
+    T,
+    H,
+}
+
+/// How a job stands; an ended one with the border at which it ended.
+#[derive(Clone, Copy, Debug, PartialEq, Eq)]
+pub enum Standing {
+    Waiting,
+    Finished(u16),
+    Cut(u16),
+    Dropped(u16),
+}
+
+/// A job's record in a run.
+#[derive(Clone, Copy, Debug, PartialEq, Eq)]
+pub struct Entry {
+    pub standing: Standing,
+    pub given: u16,
+}
+
+impl Entry {
+    pub const BLANK: Entry = Entry { standing: Standing::Waiting, given: 0 };
+
+    fn is_live(&self) -> bool {
+        self.standing == Standing::Waiting
+    }
+
+    /// The clauses of coherence that speak of one job.
+    fn holds(&self, job: &Job, t: u16) -> bool {
+        match self.standing {
+            Standing::Waiting => self.given < job.hi,
+            Standing::Finished(end) | Standing::Cut(end) | Standing::Dropped(end) => self.given <= job.hi && end <= t,
+        }
+    }
+}
+
+/// A run's whole record. Its fields are open: any record can be asked for, and an incoherent one is refused.
+#[derive(Clone, Debug, PartialEq)]
+pub struct Run {
+    pub plan: Plan,
+    pub t: u16,
+    pub phase: Phase,
+    pub entry: [Entry; JOBS],
+    pub hi: Row,
+    pub lo: Row,
+}
+
+/// What a slot is used for.
+#[derive(Clone, Copy, Debug, PartialEq, Eq)]
+pub enum Slot {
+    /// The job with this number, from 1.
+    Job(u16),
+    Idle,
+}
+
+/// The slot's use and the ready jobs, job 1 at bit 0.
+#[derive(Clone, Copy, Debug, PartialEq, Eq)]
+pub struct Choice {
+    pub slot: Slot,
+    pub ready: u32,
+}
+
+#[derive(Clone, Copy, Debug, PartialEq, Eq)]
+pub enum Kind {
+    End,
+    More,
+    None,
+}
+
+#[derive(Clone, Copy, Debug, PartialEq, Eq)]
+pub struct Report {
+    pub slot: u16,
+    pub kind: Kind,
+}
+
+impl Run {
+    pub const BLANK: Run = Run {
+        plan: Plan::BLANK,
+        t: 0,
+        phase: Phase::T,
+        entry: [Entry::BLANK; JOBS],
+        hi: [0; INTERVALS],
+        lo: [0; INTERVALS],
+    };
+
+    /// A new run of an accepted plan.
+    pub fn start(plan: &Plan) -> Result<Run, Refusal> {
+        let analysis = analyse(plan)?;
+        Ok(Run { plan: plan.clone(), hi: analysis.hi, lo: analysis.lo, ..Run::BLANK })
+    }
+
+    pub fn coherent(&self) -> bool {
+        self.layout().is_ok()
+    }
+
+    /// The plan's layout, if the record is coherent.
+    fn layout(&self) -> Result<Layout, Refusal> {
+        let clauses_hold = well_formed(&self.plan).is_ok()
+            && self.t <= self.plan.slots
+            && self.jobs().all(|(_, job, entry)| entry.holds(job, self.t));
+        if !clauses_hold {
+            return Err(Refusal::Incoherent);
+        }
+        let layout = Layout::of(&self.plan);
+        if self.fresh_rows(&layout) != (self.hi, self.lo) {
+            return Err(Refusal::Incoherent);
+        }
+        Ok(layout)
+    }
+
+    /// The planned jobs: place from 0, job, entry.
+    fn jobs(&self) -> impl Iterator<Item = (usize, &Job, &Entry)> {
+        self.plan.planned().iter().zip(&self.entry).enumerate().map(|(k, (job, entry))| (k, job, entry))
+    }
+
+    /// Both spare rows at border t; all 0 at t = N.
+    fn fresh_rows(&self, layout: &Layout) -> (Row, Row) {
+        let (mut hi, mut lo) = ([0; INTERVALS], [0; INTERVALS]);
+        for (k, job, entry) in self.jobs().filter(|(_, _, entry)| entry.is_live()) {
+            let home = layout.home(k);
+            if job.is_hi() {
+                hi[home] += i32::from(job.hi) - i32::from(entry.given);
+            }
+            lo[home] += i32::from(job.lo.saturating_sub(entry.given));
+        }
+        (layout.spares(self.t, &hi), layout.spares(self.t, &lo))
+    }
+
+    /// The spares of the current interval, HI then LO. Both are 0 when the run is over.
+    pub fn current_spares(&self, layout: &Layout) -> (i32, i32) {
+        let current = layout.past(self.t).min(INTERVALS - 1);
+        (self.hi[current], self.lo[current])
+    }
+
+    /// What the next slot is for, or 10 or 11.
+    pub fn choose(&self) -> Result<Choice, Refusal> {
+        let layout = self.layout()?;
+        self.check_not_over()?;
+        Ok(self.choice(&layout))
+    }
+
+    fn check_not_over(&self) -> Result<(), Refusal> {
+        if self.t == self.plan.slots {
+            Err(Refusal::Over { t: self.t })
+        } else {
+            Ok(())
+        }
+    }
+
+    /// The choice in a coherent record that is not over.
+    fn choice(&self, layout: &Layout) -> Choice {
+        let ready = self.set_of(|job, entry| entry.is_live() && job.release <= self.t);
+        let candidates = match self.phase {
+            Phase::T => {
+                let number = self.plan.table[usize::from(self.t)];
+                if number != 0 && self.entry[usize::from(number) - 1].is_live() {
+                    return Choice { slot: Slot::Job(number), ready };
+                }
+                ready
+            }
+            Phase::H => match self.current_spares(layout) {
+                (1.., 0..) => ready,
+                _ => ready & self.set_of(|job, _| job.is_hi()),
+            },
+        };
+        Choice { slot: self.earliest_deadline(candidates), ready }
+    }
+
+    fn set_of(&self, member: impl Fn(&Job, &Entry) -> bool) -> u32 {
+        self.jobs().fold(0, |set, (k, job, entry)| set | u32::from(member(job, entry)) << k)
+    }
+
+    /// Least deadline, then HI before LO, then the lower number.
+    fn earliest_deadline(&self, set: u32) -> Slot {
+        let members = (0..JOBS).filter(|k| set >> k & 1 == 1);
+        match members.min_by_key(|&k| (self.plan.job[k].deadline, self.plan.job[k].level)) {
+            Some(k) => Slot::Job(k as u16 + 1),
+            None => Slot::Idle,
+        }
+    }
+
+    /// Applies a report to the slot at t. Answers what the slot was for and the current spares before it.
+    /// A refusal leaves the run as it was.
+    pub fn step(&mut self, report: Report) -> Result<(Slot, (i32, i32)), Refusal> {
+        let layout = self.layout()?;
+        self.check_not_over()?;
+        if report.slot != self.t {
+            return Err(Refusal::WrongSlot { t: self.t });
+        }
+        let slot = self.choice(&layout).slot;
+        if (slot == Slot::Idle) != (report.kind == Kind::None) {
+            return Err(Refusal::WrongKind { t: self.t });
+        }
+        let spares = self.current_spares(&layout);
+        self.t += 1;
+        if let Slot::Job(number) = slot {
+            self.report(usize::from(number) - 1, report.kind);
+        }
+        self.drop_late();
+        self.phase = self.next_phase(slot);
+        (self.hi, self.lo) = self.fresh_rows(&layout);
+        Ok((slot, spares))
+    }
+
+    /// One more slot given to job k, from 0, which ends or is cut; t is the border after the slot.
+    fn report(&mut self, k: usize, kind: Kind) {
+        let entry = &mut self.entry[k];
+        entry.given += 1;
+        if kind == Kind::End {
+            entry.standing = Standing::Finished(self.t);
+        } else if entry.given == self.plan.job[k].hi {
+            entry.standing = Standing::Cut(self.t);
+        }
+    }
+
+    /// Live LO jobs whose deadline has come are dropped.
+    fn drop_late(&mut self) {
+        for (job, entry) in self.plan.planned().iter().zip(&mut self.entry) {
+            if entry.is_live() && !job.is_hi() && job.deadline <= self.t {
+                entry.standing = Standing::Dropped(self.t);
+            }
+        }
+    }
+
+    /// The phase after a slot, judged on the record as it then stands.
+    fn next_phase(&self, slot: Slot) -> Phase {
+        let overruns = |k: usize| {
+            let (job, entry) = (&self.plan.job[k], &self.entry[k]);
+            job.is_hi() && entry.is_live() && entry.given >= job.lo
+        };
+        let high = match (self.phase, slot) {
+            (Phase::T, Slot::Idle) => false,
+            (Phase::T, Slot::Job(number)) => overruns(usize::from(number) - 1),
+            (Phase::H, _) => {
+                let counts = self.table_counts();
+                self.jobs().any(|(k, _, entry)| overruns(k) || entry.is_live() && entry.given < counts[k])
+            }
+        };
+        if high {
+            Phase::H
+        } else {
+            Phase::T
+        }
+    }
+
+    /// How many table slots before t each job has.
+    fn table_counts(&self) -> [u16; JOBS] {
+        let mut counts = [0; JOBS];
+        for &number in self.plan.table[..usize::from(self.t)].iter().filter(|&&number| number != 0) {
+            counts[usize::from(number) - 1] += 1;
+        }
+        counts
+    }
+}
