@@ -1,3 +1,6 @@
 pub mod Lines
 pub mod NumberLaws
 pub mod RoundLaws
+pub mod Reading
+pub mod ReadingLaws
+pub mod ManyLaws

@@ -1,0 +1,75 @@
+-- One step of each definition of a line, at an index of the text: what the loops that read lines and digits go by.
+use mathlib.Core.Path.{_≡_, refl, sym, ap, _∙_}
+use mathlib.Core.List.{List, [], _∷_}
+use mathlib.Core.Bool.{true, false}
+use mathlib.Core.Option.{Option, none, some}
+use Prim.Native.Nat.{ℕ, zero, suc, _+_, _-_, _*_, _≤_, _<_, _^_}
+use native.Mathlib.Numerals.{add-one}
+use native.Mathlib.Omega.{arith}
+use lib.ListN.{length, getD, drop, drop-of-length-le}
+use lib.Seq.{drop-cons}
+use borrow.Author.Tests.{eq-eqb, ne-eqb, le-leb, lt-leb}
+use Rattle.lines.specs.Lines.{lineLength, begins, numberFrom}
+
+-- ---- the line's length
+
+module _ (t : List ℕ) (i : ℕ) where
+  pub length-hit : i < length t → getD t i 0 ≡ 10 → lineLength (drop i t) ≡ 0
+  unfolding lineLength
+  length-hit h e = rw (drop-cons t i 0 h, eq-eqb _ _ e)
+
+  pub length-miss : i < length t → (getD t i 0 ≡ 10 → ⊥) → lineLength (drop i t) ≡ suc (lineLength (drop (i + 1) t))
+  unfolding lineLength
+  length-miss h e = rw (add-one, drop-cons t i 0 h, ne-eqb _ _ e)
+
+  pub length-out : length t ≤ i → lineLength (drop i t) ≡ 0
+  unfolding lineLength
+  length-out h = rw (drop-of-length-le t h)
+
+-- ---- the key
+
+module _ (key s : List ℕ) (i : ℕ) where
+  pub begins-done : length key ≤ i → begins (drop i key) (drop i s) ≡ true
+  unfolding begins
+  begins-done h = rw (drop-of-length-le key h)
+
+  module _ (h : i < length key) where
+    pub begins-short : length s ≤ i → begins (drop i key) (drop i s) ≡ false
+    unfolding begins
+    begins-short e = rw (drop-of-length-le s e, drop-cons key i 0 h)
+
+    pub begins-on : i < length s → getD key i 0 ≡ getD s i 0 → begins (drop i key) (drop i s) ≡ begins (drop (i + 1) key) (drop (i + 1) s)
+    unfolding begins
+    begins-on l e = rw (add-one, drop-cons key i 0 h, drop-cons s i 0 l, eq-eqb _ _ e)
+
+    pub begins-stop : i < length s → (getD key i 0 ≡ getD s i 0 → ⊥) → begins (drop i key) (drop i s) ≡ false
+    unfolding begins
+    begins-stop l e = rw (drop-cons key i 0 h, drop-cons s i 0 l, ne-eqb _ _ e)
+
+-- ---- the digits
+
+module _ (s : List ℕ) (i n : ℕ) where
+  pub digits-done : length s ≤ i → numberFrom n (drop i s) ≡ some n
+  unfolding numberFrom
+  digits-done h = rw (drop-of-length-le s h)
+
+  module _ (h : i < length s) where
+    pub digits-on : 48 ≤ getD s i 0 → getD s i 0 ≤ 57 → numberFrom n (drop i s) ≡ numberFrom (n * 10 + (getD s i 0 - 48)) (drop (i + 1) s)
+    unfolding numberFrom
+    digits-on lo hi = rw (add-one, drop-cons s i 0 h, le-leb _ _ lo, le-leb _ _ hi)
+
+    pub digits-low : getD s i 0 < 48 → numberFrom n (drop i s) ≡ none
+    unfolding numberFrom
+    digits-low lo = rw (drop-cons s i 0 h, lt-leb _ _ lo)
+
+    pub digits-high : 57 < getD s i 0 → numberFrom n (drop i s) ≡ none
+    unfolding numberFrom
+    digits-high hi = let lo : 48 ≤ getD s i 0 = omega arith in rw (drop-cons s i 0 h, le-leb 48 _ lo, lt-leb _ 57 hi)
+
+-- a number of i digits, and one digit more, i below 4
+pub room : (i n d : ℕ) → i < 4 → n < 10 ^ i → d ≤ 9 → (n * 10 + d < 10 ^ (i + 1)) × (n * 10 + d ≤ 9999)
+room zero n d h b e = omega arith
+room (suc zero) n d h b e = omega arith
+room (suc (suc zero)) n d h b e = omega arith
+room (suc (suc (suc zero))) n d h b e = omega arith
+room (suc (suc (suc (suc i)))) n d h b e = absurd (omega arith)
