@@ -1,3 +1,7 @@
 pub mod Limits
 pub mod Plan
 pub mod Rules
+pub mod RuleLaws
+pub mod Counts
+pub mod CountLaws
+pub mod Same

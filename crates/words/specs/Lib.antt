@@ -1,3 +1,5 @@
 pub mod Words
 pub mod ListLaws
+pub mod EveryLaws
+pub mod Cases
 pub mod Difference

@@ -1,0 +1,17 @@
+-- Two cases of a test, an order or an equality of numbers, each with its fact.
+use Prim.Native.Nat.{ℕ, _≤_, _<_}
+use native.Mathlib.Decide.{ℕ-discrete}
+use mathlib.Core.Bool.{Bool, true, false}
+use mathlib.Core.Path.{_≡_, refl}
+use lib.Dec.{ltb}
+use borrow.Author.Tests.{ltb-true, ltb-false}
+
+pub by-test {ℓ} : {A : Type ℓ} (b : Bool) → (b ≡ true → A) → (b ≡ false → A) → A
+by-test true holds fails = holds refl
+by-test false holds fails = fails refl
+
+pub by-less {ℓ} : {A : Type ℓ} (m n : ℕ) → (m < n → A) → (n ≤ m → A) → A
+by-less m n less not-less = by-test (ltb m n) (λ h. less (ltb-true m n h)) (λ h. not-less (ltb-false m n h))
+
+pub by-equal {ℓ} : {A : Type ℓ} (m n : ℕ) → (m ≡ n → A) → ((m ≡ n → ⊥) → A) → A
+by-equal m n same other = elim (ℕ-discrete m n) [ yes p ↦ same p | no p ↦ other p ]
