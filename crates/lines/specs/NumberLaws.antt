@@ -5,9 +5,8 @@ use native.Mathlib.Decide.{decLt}
 use mathlib.Core.Path.{_≡_, refl, sym, ap, _∙_}
 use mathlib.Core.Bool.{Bool, true, false, _&&_, _||_}
 use mathlib.Core.List.{List, [], _∷_, _++_}
-use mathlib.Core.Option.{Option, none, some}
-use lib.ListN.{length, length-append}
-use lib.Dec.{leb, eqb, ltb}
+use mathlib.Core.Option.{none, some}
+use lib.ListN.{length}
 use borrow.Author.Tests.{lt-ltb, le-ltb, le-leb, ne-eqb, eqb-false, leb-true, ltb-false}
 use Rattle.words.specs.Words.{if_then_else_, _≤?_, _<?_, _=?_}
 use Rattle.lines.specs.Lines.{digitsIn, digits, numberFrom, number}

@@ -1,5 +1,5 @@
 -- Laws of the round trip: a line that is written is read, a line that is read is one that was written, and the same for many things of one kind.
-use Prim.Native.Nat.{ℕ, zero, suc, _+_, _-_, _*_, _/_, _%_, _≤_, _<_}
+use Prim.Native.Nat.{ℕ, zero, suc, _+_, _-_, _/_, _%_, _≤_, _<_}
 use Prim.Native.String.{String}
 use native.Mathlib.Omega.{arith}
 use native.Mathlib.Decide.{decLt}
@@ -13,7 +13,9 @@ use lib.Seq.{take-append-seam, drop-append-seam, drop-append-add}
 use borrow.Author.Tests.{eq-eqb, ne-eqb, eqb-true, lt-ltb, ltb-true}
 use Rattle.words.specs.Words.{if_then_else_, _<?_, _=?_}
 use Rattle.answers.specs.declared.Answer.{Answer}
-use Rattle.lines.specs.Lines.{bytes, LF, line, numberLine, digits, number, Cursor, Read, got, refused, Reader, onward, orForm, many, lineLength, begins, valueIn, field}
+use Rattle.answers.specs.declared.Answer.the-variants.{Form}
+use Rattle.answers.specs.Answer.{accepted}
+use Rattle.lines.specs.Lines.{bytes, LF, line, numberLine, digits, number, Cursor, Read, got, refused, Reader, give, onward, _>>=_, must, orForm, many, lineLength, begins, valueIn, field, nothingAfter}
 use Rattle.lines.specs.NumberLaws.{nothing, digits-one, digits-more, number-digits, digits-number}
 
 -- a reader at line l of a text of which s is left
@@ -124,6 +126,10 @@ module _ {A : Type 0} (meaning : List ℕ → Option A) (key : List ℕ) where
 pub unread : {A X : Type 0} {answer : Answer} {a : A} {next : Cursor} → refused answer ≡ got a next → X
 unread e = absurd (let z : _≡_ {A = ℕ} 0 1 = cc in omega arith)
 
+-- what is read is one thing at one place
+pub got-same : {A : Type 0} {a b : A} {c d : Cursor} → got a c ≡ got b d → (a ≡ b) × (c ≡ d)
+got-same e = (cc, cc)
+
 module _ {A B : Type 0} where
   pub onward-there : (r : Read A) (rest : A → Reader B) (a : A) (mid : Cursor) (x : Read B) → r ≡ got a mid → rest a mid ≡ x → onward r rest ≡ x
   onward-there r rest a mid x p q = rw p q
@@ -215,4 +221,58 @@ module _ {A : Type 0} {one : Reader A} {print : A → List ℕ} {Ok : A → Type
       let b = onward-back (many k one (a .1)) _ rs next (a .3) in
       let f = undoes .back (a .0) here (a .1) (a .2) in
       let g = many-back k (b .0) (a .1) (b .1) (b .2) in
-      stands-same (suc k) (here .text) (a .0 ∷ b .0) rs (b .1) next (cc (b .3)) (cc (b .3)) (stands-more k (here .text) (a .0) (b .0) (a .1) (b .1) f g)
+      let same = got-same (b .3) in
+      stands-same (suc k) (here .text) (a .0 ∷ b .0) rs (b .1) next (same .0) (same .1) (stands-more k (here .text) (a .0) (b .0) (a .1) (b .1) f g)
+
+-- ---- what must be accepted
+
+module _ (here : Cursor) where
+  pub must-there : (answer : Answer) → accepted answer ≡ true → must answer here ≡ got tt here
+  must-there answer h = rw h
+
+  pub must-back : (answer : Answer) (u : Unit {0}) (next : Cursor) → must answer here ≡ got u next → (accepted answer ≡ true) × (here ≡ next)
+  must-back answer u next e = pick (accepted answer) e
+    where
+      pick : (b : Bool) → (if b then got tt here else refused answer) ≡ got u next → (b ≡ true) × (here ≡ next)
+      pick true e = (refl, cc)
+      pick false e = unread e
+
+-- ---- no reader refuses by an answer that accepts
+
+abbrev pub Refuses : {A : Type 0} → Reader A → Type 0
+Refuses reader = (here : Cursor) (answer : Answer) → reader here ≡ refused answer → accepted answer ≡ false
+
+module _ {A : Type 0} where
+  pub give-refuses : (a : A) → Refuses (give a)
+  give-refuses a here answer e = absurd (let z : _≡_ {A = ℕ} 0 1 = cc in omega arith)
+
+  pub field-refuses : (meaning : List ℕ → Option A) (key : String) → Refuses (field meaning key)
+  unfolding field accepted
+  field-refuses meaning key here answer e = pick (valueIn meaning (bytes key) (here .text)) e
+    where
+      pick : (o : Option A) → orForm o here ≡ refused answer → accepted answer ≡ false
+      pick none e = let p : Form (here .lineNo) ≡ answer = cc in rw (← p)
+      pick (some a) e = absurd (let z : _≡_ {A = ℕ} 0 1 = cc in omega arith)
+
+  pub then-refuses : {B : Type 0} (reader : Reader A) (rest : A → Reader B) → Refuses reader → ((a : A) → Refuses (rest a)) → Refuses (reader >>= rest)
+  then-refuses reader rest f g here answer e = pick (reader here) (f here) e
+    where
+      pick : (r : Read A) → ((b : Answer) → r ≡ refused b → accepted b ≡ false) → onward r rest ≡ refused answer → accepted answer ≡ false
+      pick (got a mid) f e = g a mid answer e
+      pick (refused b) f e = f answer (ap refused cc)
+
+pub must-refuses : (answer : Answer) → Refuses (must answer)
+must-refuses answer here b e = pick (accepted answer) refl e
+  where
+    pick : (x : Bool) → accepted answer ≡ x → (if x then got (tt {0}) here else refused answer) ≡ refused b → accepted b ≡ false
+    pick true p e = absurd (let z : _≡_ {A = ℕ} 0 1 = cc in omega arith)
+    pick false p e = let q : answer ≡ b = cc in rw (← q) p
+
+pub many-refuses : {A : Type 0} (k : ℕ) (one : Reader A) → Refuses one → Refuses (many k one)
+unfolding many
+many-refuses zero one f = give-refuses []
+many-refuses (suc k) one f = then-refuses one _ f (λ first. then-refuses (many k one) _ (many-refuses k one f) (λ others. give-refuses (first ∷ others)))
+
+pub nothing-refuses : Refuses nothingAfter
+unfolding nothingAfter
+nothing-refuses here answer e = must-refuses _ here answer e

@@ -1,2 +1,5 @@
 pub mod Read
 pub mod Write
+pub mod RoundLaws
+pub mod WriteLaws
+pub mod RoundTrip
