@@ -1,0 +1,5 @@
+pub mod Promise
+pub mod CountLaws
+pub mod TableLaws
+pub mod OneSlot
+pub mod OneSlotLaws

@@ -1,10 +1,10 @@
 -- The laws of work in windows: one slot less, less work, the deadline, and what one slot keeps (W1 to W6). Orders of slots are in OrderLaws.
-use Prim.Native.Nat.{ℕ, suc, _+_, _-_, _≤_, _<_}
+use Prim.Native.Nat.{ℕ, _+_, _-_, _≤_, _<_}
 use native.Mathlib.Decide.{decLe}
 use native.Mathlib.Omega.{arith}
 use mathlib.Core.Path.{_≡_}
-use Rattle.windows.specs.Sums.{total, gate}
-use Rattle.windows.specs.SumLaws.{total-mono, total-less, total-member, gate-open, gate-shut, gate-mono, gate-none}
+use Rattle.windows.specs.Sums.{gate}
+use Rattle.windows.specs.SumLaws.{total-mono, total-less, total-member, gate-open, gate-shut, gate-mono}
 use Rattle.windows.specs.Windows.{Windows, dueBy, within, InTime, Feasible, NoMore, Ready}
 
 module _ (w : Windows) where
