@@ -1,3 +1,4 @@
 pub mod Intervals
 pub mod Spares
 pub mod Layout
+pub mod RowLaws

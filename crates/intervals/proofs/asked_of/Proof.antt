@@ -1,0 +1,20 @@
+-- `intervals::asked_of` meets its contract: by whether the interval is past.
+use borrow.Author.Needs.{needs}
+use borrow.Author.Tests.{le-leb, lt-leb}
+use Rattle.intervals.specs.RowLaws.{asked}
+use Rattle.intervals.proofs.asked_of.Statement.{statement}
+use Rattle.intervals.proofs.asked_of.Tie as tie
+
+add-result : tie.Need-add-result
+add-result c = search needs
+
+returns : tie.Need-returns
+unfolding asked
+returns c = rw (le-leb _ _ (c .if1 .taken))
+
+returns-2 : tie.Need-returns-2
+unfolding asked
+returns-2 c = rw (lt-leb _ _ (c .if1 .left))
+
+pub asked-of-spec : {M : Type 1} → statement M
+asked-of-spec = tie.close (tie.spec add-result returns returns-2)
