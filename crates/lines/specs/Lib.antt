@@ -4,3 +4,4 @@ pub mod RoundLaws
 pub mod Reading
 pub mod ReadingLaws
 pub mod ManyLaws
+pub mod ForwardLaws

@@ -11,10 +11,10 @@ use native.Mathlib.Omega.{arith}
 use lib.ListN.{length, getD, take, drop, length-drop, length-take, drop-of-length-le}
 use lib.Seq.{drop-drop, take-nil, take-all}
 use lib.Dec.{eqb, ltb}
-use borrow.Author.Tests.{eq-eqb, ne-eqb, le-ltb, lt-ltb, ltb-true}
+use borrow.Author.Tests.{eqb-true, eqb-false, eq-eqb, ne-eqb, le-ltb, lt-ltb, ltb-true}
 use Rattle.answers.specs.declared.Answer.the-variants.{Form}
 use Rattle.words.specs.Words.{if_then_else_, _<?_}
-use Rattle.lines.specs.Lines.{bytes, Cursor, Read, got, refused, lineLength, begins, number, numberFrom, valueIn, field}
+use Rattle.lines.specs.Lines.{bytes, Cursor, Read, got, refused, lineLength, begins, sameBytes, number, numberFrom, valueIn, field}
 use Rattle.lines.specs.Reading.{lineAfter, valueAt, numberRead, numberThen, numberAt, standing}
 use Rattle.lines.specs.declared.reading.ValueAt.{ValueAt}
 use Rattle.lines.specs.declared.reading.ValueAt.the-variants.{At, Refused}
@@ -35,6 +35,35 @@ unfolding begins
 begins-length [] s h = zero-le
 begins-length (k ∷ key) [] h = absurd (differ h)
 begins-length (k ∷ key) (b ∷ s) h = suc-le-suc (begins-length key s (and-right (eqb k b) (begins key s) h))
+
+-- ---- the same bytes
+
+eqb-turned : (m n : ℕ) → eqb m n ≡ eqb n m
+eqb-turned m n = turned (eqb m n) (eqb n m) refl refl
+  where
+    turned : (a b : Bool) → eqb m n ≡ a → eqb n m ≡ b → a ≡ b
+    turned true true p q = refl
+    turned true false p q = absurd (eqb-false n m q (sym (eqb-true m n p)))
+    turned false true p q = absurd (eqb-false m n p (sym (eqb-true n m q)))
+    turned false false p q = refl
+
+pub same-length : (s word : List ℕ) → (length s ≡ length word → ⊥) → false ≡ sameBytes s word
+unfolding sameBytes
+same-length [] [] h = absurd (h refl)
+same-length [] (b ∷ word) h = refl
+same-length (a ∷ s) [] h = refl
+same-length (a ∷ s) (b ∷ word) h = rw (← same-length s word (λ e. h (ap suc e))) (sym (and-no (eqb a b)))
+  where
+    and-no : (c : Bool) → c && false ≡ false
+    and-no true = refl
+    and-no false = refl
+
+pub same-begins : (s word : List ℕ) → length s ≡ length word → begins word s ≡ sameBytes s word
+unfolding sameBytes begins
+same-begins [] [] h = refl
+same-begins [] (b ∷ word) h = absurd (omega arith)
+same-begins (a ∷ s) [] h = absurd (omega arith)
+same-begins (a ∷ s) (b ∷ word) h = rw (eqb-turned b a, same-begins s word (omega arith))
 
 -- ---- where a value stands: `end` is the place of the LF, or the text's end
 

@@ -3,7 +3,7 @@
 ghost use mathlib.Core.Path.{_≡_};
 ghost use Prim.Native.Nat.{_+_, _≤_};
 ghost use lib.ListN.{length, take, drop};
-ghost use Rattle.lines.specs.Lines.{lineLength, begins, number, numberFrom};
+ghost use Rattle.lines.specs.Lines.{lineLength, begins, sameBytes, number, numberFrom};
 ghost use Rattle.lines.specs.Reading.{valueAt, numberRead, numberAt};
 
 // Where a line's value stands: its first byte, its length, and the first byte of the next line.
@@ -56,6 +56,16 @@ pub fn begins_with(line: &[u8], key: &[u8]) -> bool
         i += 1;
     }
     true
+}
+
+// The two are the same bytes.
+pub fn same_bytes(s: &[u8], word: &[u8]) -> bool
+    ensures { λ r. ⌜ r ≡ sameBytes (now (s .entry)) (now (word .entry)) ⌝ }
+{
+    if s.len() != word.len() {
+        return false;
+    }
+    begins_with(s, word)
 }
 
 // Where the value of the line at `at` stands; refused where the line is missing, is not closed or has another key.
