@@ -2,6 +2,9 @@
 use answers::Answer;
 use plan::Plan;
 
+mod entries;
+mod ready;
+
 // How a job stands: Waiting is live, the others are ended, with the border after that step.
 pub enum Standing {
     Waiting,

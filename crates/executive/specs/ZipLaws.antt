@@ -1,0 +1,38 @@
+-- Laws of two lists taken together element by element: how many, which at place i, and the rest from there.
+use Prim.Native.Nat.{ℕ, zero, suc, _≤_, _<_}
+use native.Mathlib.Nat.{not-suc-le-zero, le-of-suc-le-suc}
+use native.Mathlib.Omega.{arith}
+use mathlib.Core.Path.{_≡_, refl, ap, _∙_}
+use mathlib.Core.List.{List, [], _∷_, zipWith}
+use lib.ListN.{length, take, drop, getD, drop-of-length-le}
+use lib.Seq.{drop-cons, getD-take, length-take-le}
+
+module _ {A B C : Type 0} (f : A → B → C) where
+  zip-length : (xs : List A) (ys : List B) → length xs ≤ length ys → length (zipWith f xs ys) ≡ length xs
+  unfolding zipWith
+  zip-length [] ys h = refl
+  zip-length (x ∷ xs) [] h = absurd (not-suc-le-zero h)
+  zip-length (x ∷ xs) (y ∷ ys) h = ap suc (zip-length xs ys (le-of-suc-le-suc h))
+
+  zip-at : (xs : List A) (ys : List B) (i : ℕ) (x : A) (y : B) (z : C) → i < length xs → i < length ys → getD (zipWith f xs ys) i z ≡ f (getD xs i x) (getD ys i y)
+  unfolding zipWith
+  zip-at [] ys i x y z h k = absurd (not-suc-le-zero h)
+  zip-at (a ∷ xs) [] i x y z h k = absurd (not-suc-le-zero k)
+  zip-at (a ∷ xs) (b ∷ ys) zero x y z h k = refl
+  zip-at (a ∷ xs) (b ∷ ys) (suc i) x y z h k = zip-at xs ys i x y z (le-of-suc-le-suc h) (le-of-suc-le-suc k)
+
+-- the first n of the one list with the other
+module _ {A B C : Type 0} (f : A → B → C) (xs : List A) (ys : List B) (n : ℕ) (h : n ≤ length xs) (k : n ≤ length ys) where
+  pub zipped-length : length (zipWith f (take n xs) ys) ≡ n
+  zipped-length = let e = length-take-le n xs h in zip-length f (take n xs) ys (omega arith) ∙ e
+
+  pub zipped-at : (i : ℕ) (x : A) (y : B) (z : C) → i < n → getD (zipWith f (take n xs) ys) i z ≡ f (getD xs i x) (getD ys i y)
+  zipped-at i x y z l = let e = length-take-le n xs h in zip-at f (take n xs) ys i x y z (omega arith) (omega arith) ∙ ap (λ (a : A). f a (getD ys i y)) (getD-take n xs i x l)
+
+  pub zipped-from : (i : ℕ) (x : A) (y : B) → i < n → drop i (zipWith f (take n xs) ys) ≡ f (getD xs i x) (getD ys i y) ∷ drop (suc i) (zipWith f (take n xs) ys)
+  zipped-from i x y l =
+      let e = zipped-length in
+      rw (drop-cons (zipWith f (take n xs) ys) i (f x y) (omega arith), zipped-at i x y (f x y) l)
+
+  pub zipped-end : (i : ℕ) → n ≤ i → drop i (zipWith f (take n xs) ys) ≡ []
+  zipped-end i l = let e = zipped-length in drop-of-length-le (zipWith f (take n xs) ys) {i = i} (omega arith)

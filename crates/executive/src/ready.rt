@@ -1,0 +1,120 @@
+// The ready jobs as one 32-bit set, job 1 at bit 0, and the earliest-deadline walk over it. Who gets the slot is in choosing.rt.
+ghost use mathlib.Core.Path.{_≡_};
+ghost use mathlib.Core.Bool.{_||_};
+ghost use Prim.Native.Nat.{_+_, _-_, _≤_, _<_};
+ghost use Rattle.words.specs.Words.{if_then_else_, _=?_};
+ghost use Rattle.plan.specs.Limits.{maxJobs};
+ghost use Rattle.executive.specs.Choice.{goesBefore, setOf, earliest};
+ghost use Rattle.executive.specs.Ready.{isMember, members, membersOf, slotOf};
+use crate::Entry;
+use crate::Run;
+use crate::Slot;
+use crate::entries::is_hi;
+use crate::entries::is_live;
+use plan::Job;
+use plan::Plan;
+
+// A ready job, or with `hi` a ready HI job.
+fn is_member(hi: bool, t: u16, j: Job, e: Entry) -> bool
+    ensures { λ r. ⌜ r ≡ isMember hi t j e ⌝ }
+{
+    if !is_live(e) {
+        return false;
+    }
+    if t < j.release {
+        return false;
+    }
+    if !hi {
+        return true;
+    }
+    is_hi(j)
+}
+
+impl Run {
+    // The set of the ready jobs, or with `hi` of the ready HI jobs.
+    pub(crate) fn ready_set(self, hi: bool) -> u32
+        requires { ⌜ self .plan .jobs ≤ maxJobs ⌝ }
+        ensures { λ r. ⌜ r ≡ setOf (members hi self) ⌝ }
+    {
+        let p = self.plan;
+        let n = p.jobs as usize;
+        let mut set: u32 = 0;
+        let mut i: usize = 0;
+        while i < n {
+            let j = p.job[i];
+            let e = self.job[i];
+            if is_member(hi, self.t, j, e) {
+                set = set | (1u32 << i);
+            }
+            i += 1;
+        }
+        set
+    }
+}
+
+// Least deadline, then HI before LO; of two alike the lower number stays.
+fn goes_before(i: Job, j: Job) -> bool
+    ensures { λ r. ⌜ r ≡ goesBefore i j ⌝ }
+{
+    if i.deadline < j.deadline {
+        return true;
+    }
+    if i.deadline != j.deadline {
+        return false;
+    }
+    if !is_hi(i) {
+        return false;
+    }
+    !is_hi(j)
+}
+
+// The number of the better one: job k, or the best so far, 0 where there is none.
+fn winner(best: u16, first: Job, k: u16, j: Job) -> u16
+    ensures { λ r. ⌜ r ≡ (if (best =? 0) || goesBefore j first then k else best) ⌝ }
+{
+    if best == 0 {
+        return k;
+    }
+    if goes_before(j, first) {
+        return k;
+    }
+    best
+}
+
+// The index of job k; 0 has that of job 1.
+pub(crate) fn index(k: u16) -> usize
+    ensures { λ r. ⌜ (r ≡ k - 1) × (r < 65536) ⌝ }
+{
+    if k == 0 {
+        return 0;
+    }
+    (k - 1) as usize
+}
+
+fn slot_of(k: u16) -> Slot
+    ensures { λ r. ⌜ r ≡ slotOf k ⌝ }
+{
+    if k == 0 {
+        return Slot::Idle;
+    }
+    Slot::Job(k)
+}
+
+// The member of earliest deadline, none means idle. Each turn takes the lowest member out.
+pub(crate) fn earliest(p: Plan, set: u32) -> Slot
+    ensures { λ r. ⌜ r ≡ earliest p (membersOf maxJobs set) ⌝ }
+{
+    let mut best: u16 = 0;
+    let mut rest = set;
+    while 0 < rest {
+        let lowest = u32::trailing_zeros(rest);
+        let at = lowest as usize;
+        let j = p.job[at];
+        let b = index(best);
+        let first = p.job[b];
+        let k = lowest as u16 + 1;
+        best = winner(best, first, k, j);
+        rest = rest - (1u32 << lowest);
+    }
+    slot_of(best)
+}
