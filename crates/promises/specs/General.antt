@@ -1,0 +1,94 @@
+-- General laws that the theorems of this crate use: tests joined, lists joined member by member, answers in order. Nothing here is of the trade.
+use Prim.Native.Nat.{ℕ, zero, suc, _+_, _-_, _≤_, _<_, suc-le-suc, zero-le}
+use native.Mathlib.Nat.{not-suc-le-zero, le-of-suc-le-suc}
+use native.Mathlib.Omega.{arith}
+use mathlib.Core.Path.{_≡_, refl, sym, ap, _∙_}
+use mathlib.Core.Bool.{Bool, true, false, not, _&&_, false≢true, true≢false}
+use mathlib.Core.List.{List, [], _∷_, _++_, zipWith, map}
+use lib.ListN.{length, getD}
+use Rattle.words.specs.Words.{if_then_else_, every}
+use Rattle.answers.specs.declared.Answer.{Answer}
+use Rattle.answers.specs.declared.Answer.the-variants.{Accepted}
+use Rattle.answers.specs.Answer.{accepted, _unless_, _andThen_, firstRefusal}
+
+-- ---- tests
+
+-- both parts of a joined test hold
+pub both : (a b : Bool) → (a && b) ≡ true → (a ≡ true) × (b ≡ true)
+both true b h = (refl, h)
+both false b h = absurd (false≢true h)
+
+-- and the other way
+pub joined : (a b : Bool) → a ≡ true → b ≡ true → (a && b) ≡ true
+joined a b p q = rw (p, q)
+
+-- a test has one outcome
+pub not-both : (b : Bool) → b ≡ true → b ≡ false → ⊥
+not-both b p q = true≢false (sym p ∙ q)
+
+-- ---- lists
+
+module _ {A B C : Type 0} (f : A → B → C) (a : A) (b : B) where
+  -- a member of the joined list
+  pub getD-zip : (xs : List A) (ys : List B) (i : ℕ) (d : C) → i < length xs → i < length ys → getD (zipWith f xs ys) i d ≡ f (getD xs i a) (getD ys i b)
+  unfolding zipWith
+  getD-zip [] ys i d h l = absurd (not-suc-le-zero h)
+  getD-zip (x ∷ xs) [] i d h l = absurd (not-suc-le-zero l)
+  getD-zip (x ∷ xs) (y ∷ ys) zero d h l = refl
+  getD-zip (x ∷ xs) (y ∷ ys) (suc i) d h l = getD-zip xs ys i d (le-of-suc-le-suc h) (le-of-suc-le-suc l)
+
+module _ {A B : Type 0} (f : A → B → Bool) (a : A) (b : B) where
+  -- a test that holds for one pair of the joined list is of members
+  pub zip-member : (xs : List A) (ys : List B) (i : ℕ) → getD (zipWith f xs ys) i false ≡ true → (i < length xs) × (i < length ys) × (f (getD xs i a) (getD ys i b) ≡ true)
+  unfolding zipWith
+  zip-member [] ys i h = absurd (false≢true h)
+  zip-member (x ∷ xs) [] i h = absurd (false≢true h)
+  zip-member (x ∷ xs) (y ∷ ys) zero h = (suc-le-suc zero-le, suc-le-suc zero-le, h)
+  zip-member (x ∷ xs) (y ∷ ys) (suc i) h = let r = zip-member xs ys i h in (suc-le-suc (r .0), suc-le-suc (r .1), r .2)
+
+  -- a test that holds for every pair holds for one
+  pub every-zip : (xs : List A) (ys : List B) → every (zipWith f xs ys) ≡ true → (i : ℕ) → i < length xs → i < length ys → f (getD xs i a) (getD ys i b) ≡ true
+  unfolding zipWith every
+  every-zip [] ys e i h l = absurd (not-suc-le-zero h)
+  every-zip (x ∷ xs) [] e i h l = absurd (not-suc-le-zero l)
+  every-zip (x ∷ xs) (y ∷ ys) e zero h l = both (f x y) (every (zipWith f xs ys)) e .0
+  every-zip (x ∷ xs) (y ∷ ys) e (suc i) h l = every-zip xs ys (both (f x y) (every (zipWith f xs ys)) e .1) i (le-of-suc-le-suc h) (le-of-suc-le-suc l)
+
+  -- and the other way
+  pub zip-every : (xs : List A) (ys : List B) → ((i : ℕ) → i < length xs → i < length ys → f (getD xs i a) (getD ys i b) ≡ true) → every (zipWith f xs ys) ≡ true
+  unfolding zipWith every
+  zip-every [] ys e = refl
+  zip-every (x ∷ xs) [] e = refl
+  zip-every (x ∷ xs) (y ∷ ys) e =
+      joined (f x y) (every (zipWith f xs ys)) (e 0 (suc-le-suc zero-le) (suc-le-suc zero-le)) (zip-every xs ys (λ i h l. e (suc i) (suc-le-suc h) (suc-le-suc l)))
+
+-- ---- answers
+
+-- the answer that accepts is accepted
+pub is-accepted : (a : Answer) → a ≡ Accepted → accepted a ≡ true
+unfolding accepted
+is-accepted a e = rw e
+
+-- an answer after another is accepted where both are
+pub both-accepted : (a b : Answer) → accepted (a andThen b) ≡ true → (accepted a ≡ true) × (accepted b ≡ true)
+both-accepted a b = go (accepted a) refl
+  where
+    go : (x : Bool) → accepted a ≡ x → accepted (a andThen b) ≡ true → (accepted a ≡ true) × (accepted b ≡ true)
+    go true e h = (e, rw e at h)
+    go false e h = let g : accepted a ≡ true = rw e at h in absurd (not-both (accepted a) g e)
+
+-- a rule whose refusal was not given holds
+pub unless-holds : (refusal : Answer) (b : Bool) → accepted refusal ≡ false → accepted (refusal unless b) ≡ true → b ≡ true
+unless-holds refusal true e h = refl
+unless-holds refusal false e h = absurd (not-both (accepted refusal) h e)
+
+-- no refusal along a list: each member is accepted
+pub none-refused : {A : Type 0} (judge : ℕ → A → Answer) (d : A) (k : ℕ) (xs : List A) → accepted (firstRefusal judge k xs) ≡ true → (i : ℕ) → i < length xs → accepted (judge (k + i) (getD xs i d)) ≡ true
+unfolding firstRefusal
+none-refused judge d k [] e i l = absurd (not-suc-le-zero l)
+none-refused judge d k (x ∷ xs) e zero l =
+    let z : k + 0 ≡ k = omega arith in
+    rw z (both-accepted (judge k x) (firstRefusal judge (suc k) xs) e .0)
+none-refused judge d k (x ∷ xs) e (suc i) l =
+    let z : k + suc i ≡ suc k + i = omega arith in
+    rw z (none-refused judge d (suc k) xs (both-accepted (judge k x) (firstRefusal judge (suc k) xs) e .1) i (le-of-suc-le-suc l))
