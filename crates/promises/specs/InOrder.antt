@@ -1,19 +1,16 @@
 -- What checks 2 to 7 say of a plan, job by job and slot by slot.
-use Prim.Native.Nat.{ℕ, zero, suc, _+_, _-_, _≤_, _<_}
+use Prim.Native.Nat.{ℕ, _+_, _-_, _≤_, _<_}
 use native.Mathlib.Omega.{arith}
-use mathlib.Core.Path.{_≡_, refl, sym, ap, _∙_}
-use mathlib.Core.Logic.{_⊎_, inl, inr, ⊎-elim}
-use mathlib.Core.Bool.{Bool, true, false, not, _&&_, _||_, false≢true}
-use mathlib.Core.List.{List}
-use lib.ListN.{length, take, getD}
+use mathlib.Core.Path.{_≡_, refl}
+use mathlib.Core.Bool.{true, false, _&&_, _||_}
+use lib.ListN.{length, getD}
 use lib.Seq.{length-take-le, getD-take}
 use borrow.Author.Tests.{leb-true, ltb-true, eqb-true, ne-eqb}
 use Rattle.plan.specs.declared.Job.{Job}
 use Rattle.plan.specs.declared.Plan.{Plan}
-use Rattle.answers.specs.declared.Answer.{Answer}
 use Rattle.answers.specs.declared.Answer.the-variants.{Window, Budget, TableSlot, TableCount, SlotLimit, JobLimit}
 use Rattle.words.specs.Words.{_≤?_, _<?_, _=?_}
-use Rattle.answers.specs.Answer.{accepted, _unless_, firstRefusal}
+use Rattle.answers.specs.Answer.{accepted, _unless_}
 use Rattle.plan.specs.Limits.{maxJobs, maxSlots, oneTo}
 use Rattle.plan.specs.Plan.{jobsOf, slotsOf, jobNo, blankJob, tableAt, tableSlots, naming, isHi}
 use Rattle.plan.specs.Rules.{check2, check3, windowHolds, budgetHolds}

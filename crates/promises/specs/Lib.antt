@@ -6,3 +6,6 @@ pub mod Shams
 pub mod General
 pub mod InOrder
 pub mod ChoiceLaws
+pub mod NextLaws
+pub mod StepLaws
+pub mod History

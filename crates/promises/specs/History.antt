@@ -1,0 +1,144 @@
+-- Demand 2: over every sequence of accepted reports the run is what its history says. Proved by induction on the sequence from the laws of one step.
+use Prim.Native.Nat.{ℕ, suc, _+_, _<_}
+use native.Mathlib.Omega.{arith}
+use mathlib.Core.Path.{_≡_, refl, ap, _∙_}
+use mathlib.Core.Bool.{Bool, true, false}
+use mathlib.Core.List.{List, [], _∷_, _++_}
+use lib.ListN.{length, length-append}
+use Rattle.plan.specs.declared.Job.{Job}
+use Rattle.plan.specs.declared.Plan.{Plan}
+use Rattle.answers.specs.declared.Answer.the-variants.{Accepted}
+use Rattle.words.specs.Words.{if_then_else_, _=?_}
+use Rattle.plan.specs.Plan.{jobNo, naming}
+use Rattle.executive.specs.declared.Standing.{Standing}
+use Rattle.executive.specs.declared.Standing.the-variants.{Waiting, Finished, Cut, Dropped}
+use Rattle.executive.specs.declared.Run.{Run}
+use Rattle.executive.specs.declared.Report.{Report}
+use Rattle.executive.specs.Run.{entryNo}
+use Rattle.executive.specs.Coherent.{coherent}
+use Rattle.executive.specs.Choice.{chosen}
+use Rattle.executive.specs.Step.{standingAfter, nextRun, kindFits, step}
+use Rattle.promises.specs.Demands.{JobOf, Event, event, Reached, started, stepped, jobRun, jobsRun, standsAfter, firstEnd, told, Demand2}
+use Rattle.promises.specs.NextLaws.{next-plan, next-t, given-after, stands-after, leftAlone}
+use Rattle.promises.specs.StepLaws.{taken, taken-accepted, next-run, Recorded, recorded-coherent, own-live, next-entry, next-recorded, start-accepted, start-run, accepted-well-formed, start-recorded, fresh-at}
+
+-- ---- the record
+
+-- the plan stays, and the record is whole
+pub reached-plan : {p : Plan} {h : List Event} {r : Run} → Reached p h r → r .plan ≡ p
+reached-plan {p} (started sz e) = ap (λ (r : Run). r .plan) (start-run p e)
+reached-plan {p} (stepped {r = r} report q e) = ap (λ (r : Run). r .plan) (next-run r report e) ∙ next-plan r (chosen r) (report .kind) ∙ reached-plan q
+
+pub reached-recorded : {p : Plan} {h : List Event} {r : Run} → Reached p h r → Recorded r
+reached-recorded {p} (started sz e) = rw (start-run p e) (start-recorded p sz (accepted-well-formed p (start-accepted p e)))
+reached-recorded {p} (stepped {r = r} report q e) = rw (next-run r report e) (next-recorded r (reached-recorded q) report (taken r report e))
+
+-- every run that comes from a start is coherent
+pub reached-coherent : {p : Plan} {h : List Event} {r : Run} → Reached p h r → coherent r ≡ true
+reached-coherent {r = r} q = recorded-coherent r (reached-recorded q)
+
+-- and while t < N it accepts exactly the reports with slot t and a kind that fits
+pub reached-accepts : {p : Plan} {h : List Event} {r : Run} → Reached p h r → r .t < r .plan .slots → (report : Report) → report .slot ≡ r .t → kindFits (chosen r) (report .kind) ≡ true → step r report .answer ≡ Accepted
+reached-accepts {r = r} q more report same fits = taken-accepted r report (record { whole = reached-coherent q; more = more; slot = same; fits = fits })
+
+-- t is the number of reports
+pub reached-t : {p : Plan} {h : List Event} {r : Run} → Reached p h r → r .t ≡ length h
+reached-t {p} (started sz e) = ap (λ (r : Run). r .t) (start-run p e)
+reached-t {p} (stepped {h = h} {r = r} report q e) =
+    let a = reached-t q in
+    let b = length-append h (event r report ∷ []) in
+    ap (λ (r : Run). r .t) (next-run r report e) ∙ next-t r (chosen r) (report .kind) ∙ omega arith
+
+-- ---- laws of histories
+
+-- one slot where the event is job k's own
+abbrev ownSlot : ℕ → Event → ℕ
+ownSlot k e = if jobRun (e .slot) =? k then 1 else 0
+
+-- one event more at the end
+pub naming-last : (k : ℕ) (h : List Event) (e : Event) → naming k (jobsRun (h ++ e ∷ [])) ≡ naming k (jobsRun h) + ownSlot k e
+unfolding naming jobsRun
+naming-last k [] e = omega arith
+naming-last k (x ∷ h) e = let r = naming-last k h e in omega arith
+
+-- ends in order
+first-waiting : (s : Standing) → firstEnd s Waiting ≡ s
+first-waiting Waiting = refl
+first-waiting (Finished b) = refl
+first-waiting (Cut b) = refl
+first-waiting (Dropped b) = refl
+
+first-again : (a b c : Standing) → firstEnd a (firstEnd b c) ≡ firstEnd (firstEnd a b) c
+first-again Waiting b c = refl
+first-again (Finished x) b c = refl
+first-again (Cut x) b c = refl
+first-again (Dropped x) b c = refl
+
+-- what is told with one event more
+told-last : (j : Job) (k given t : ℕ) (h : List Event) (e : Event)
+    → told j k given t (h ++ e ∷ []) ≡ firstEnd (told j k given t h) (standsAfter j k (given + naming k (jobsRun h) + ownSlot k e) (suc (t + length h)) e)
+unfolding told naming jobsRun
+told-last j k given t [] e =
+    let a : given + 0 + ownSlot k e ≡ given + ownSlot k e = omega arith in
+    let b : t + 0 ≡ t = omega arith in
+    rw (a, b) (first-waiting (standsAfter j k (given + ownSlot k e) (suc t) e))
+told-last j k given t (x ∷ h) e =
+    let had = given + ownSlot k x in
+    let n = naming k (jobsRun h) in
+    let a : given + (ownSlot k x + n) + ownSlot k e ≡ had + n + ownSlot k e = omega arith in
+    let b : t + suc (length h) ≡ suc t + length h = omega arith in
+    rw (told-last j k had (suc t) h e, a, b) (first-again (standsAfter j k had (suc t) x) (told j k had (suc t) h) (standsAfter j k (had + n + ownSlot k e) (suc (suc t + length h)) e))
+
+-- ---- slots given, and standings
+
+-- a job has been given the slots that were its own
+pub reached-given : {p : Plan} {h : List Event} {r : Run} → Reached p h r → (k : ℕ) → JobOf (r .plan) k → entryNo r k .given ≡ naming k (jobsRun h)
+unfolding naming jobsRun
+reached-given {p} (started sz e) = rw (start-run p e) (λ k l. rw (fresh-at p sz (accepted-well-formed p (start-accepted p e)) k l))
+reached-given {p} (stepped {h = h} {r = r} report q e) =
+    rw (next-run r report e, next-plan r (chosen r) (report .kind))
+    (λ k l. rw (next-entry r (reached-recorded q) report (taken r report e) k l, naming-last k h (event r report), ← reached-given q k l)
+    (given-after (r .t + 1) (jobNo (r .plan) k) (jobRun (chosen r) =? k) (report .kind) (entryNo r k)))
+
+-- one step: an ended job stands as it stood, a live one as the event tells
+event-stands : (j : Job) (k given border : ℕ) (e : Event)
+    → (if jobRun (e .slot) =? k then standingAfter (e .kind) (j .hi) (given + 1) border (leftAlone j border) else leftAlone j border) ≡ standsAfter j k (given + ownSlot k e) border e
+unfolding standsAfter
+event-stands j k given border e = go (jobRun (e .slot) =? k)
+  where
+    go : (own : Bool)
+        → (if own then standingAfter (e .kind) (j .hi) (given + 1) border (leftAlone j border) else leftAlone j border)
+        ≡ (if own then standingAfter (e .kind) (j .hi) (given + (if own then 1 else 0)) border (leftAlone j border) else leftAlone j border)
+    go true = refl
+    go false = refl
+
+-- each job stands as the history tells
+pub reached-standing : {p : Plan} {h : List Event} {r : Run} → Reached p h r → (k : ℕ) → JobOf (r .plan) k → entryNo r k .standing ≡ told (jobNo (r .plan) k) k 0 0 h
+unfolding told
+reached-standing {p} (started sz e) = rw (start-run p e) (λ k l. rw (fresh-at p sz (accepted-well-formed p (start-accepted p e)) k l))
+reached-standing {p} (stepped {h = h} {r = r} report q e) = rw (next-run r report e, next-plan r (chosen r) (report .kind)) (λ k l. each k l (reached-standing q k l))
+  where
+    each : (k : ℕ) → JobOf (r .plan) k → entryNo r k .standing ≡ told (jobNo (r .plan) k) k 0 0 h
+        → entryNo (nextRun r (chosen r) (report .kind)) k .standing ≡ told (jobNo (r .plan) k) k 0 0 (h ++ event r report ∷ [])
+    each k l before =
+        let j = jobNo (r .plan) k in
+        let w = reached-recorded q in
+        let ok = taken r report e in
+        let given : 0 + naming k (jobsRun h) ≡ entryNo r k .given = (let g = reached-given q k l in omega arith) in
+        let border : suc (0 + length h) ≡ r .t + 1 = (let t = reached-t q in omega arith) in
+        rw (next-entry r w report ok k l, told-last j k 0 0 h (event r report), given, border, ← before, ← event-stands j k (entryNo r k .given) (r .t + 1) (event r report))
+        (stands-after (r .t + 1) j (jobRun (chosen r) =? k) (report .kind) (entryNo r k) (own-live r w report ok k (l .0)))
+
+-- ---- the demand
+
+pub demand-2 : Demand2
+demand-2 p h r q =
+    let plan = reached-plan q in
+    let w = reached-recorded q in (
+      plan,
+      reached-t q,
+      rw plan at (reached-given q),
+      rw plan at (reached-standing q),
+      w .hi,
+      w .lo,
+    )

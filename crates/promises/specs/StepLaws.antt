@@ -1,0 +1,233 @@
+-- What acceptance of a step means, and what every run that comes from a start keeps in its record.
+use Prim.Native.Nat.{ℕ, zero, suc, _+_, _-_, _≤_, _<_, zero-le}
+use native.Mathlib.Nat.{not-suc-le-zero, le-of-suc-le-suc}
+use native.Mathlib.Omega.{arith}
+use mathlib.Core.Path.{_≡_, refl, ap, _∙_}
+use mathlib.Core.Bool.{Bool, true, false, false≢true}
+use mathlib.Core.List.{List, [], _∷_, map, zipWith}
+use lib.IntN.{ℤ, pos, negsuc}
+use lib.ListN.{length, getD, replicate, length-replicate, getD-replicate}
+use lib.Seq.{getD-take, length-take-le}
+use borrow.Author.Tests.{ltb-true, eqb-true, lt-ltb, le-leb, eq-eqb}
+use Rattle.plan.specs.declared.Job.{Job}
+use Rattle.plan.specs.declared.Plan.{Plan}
+use Rattle.answers.specs.declared.Answer.the-variants.{Accepted, Incoherent, Over, OtherSlot, WrongKind}
+use Rattle.words.specs.Words.{_<?_, _=?_, every}
+use Rattle.plan.specs.Limits.{maxJobs}
+use Rattle.plan.specs.Plan.{jobsOf, jobNo, blankJob}
+use Rattle.answers.specs.Answer.{accepted, _unless_, _andThen_}
+use Rattle.intervals.specs.Spares.{hiLeft, loLeft}
+use Rattle.acceptance.specs.Acceptance.{wellFormed, acceptance, check8, check9}
+use Rattle.executive.specs.declared.Run.{Run}
+use Rattle.executive.specs.declared.Slot.{Slot}
+use Rattle.executive.specs.declared.Kind.{Kind}
+use Rattle.executive.specs.declared.Kind.the-variants.{None}
+use Rattle.executive.specs.declared.Report.{Report}
+use Rattle.executive.specs.Run.{live, entryNo, freshEntry, freshHi, freshLo, hiWork, loWork, start, newRun}
+use Rattle.executive.specs.Coherent.{standingHolds, entriesHold, sameSpare, sameRow, coherent}
+use Rattle.executive.specs.Choice.{chosen, canGoOn}
+use Rattle.executive.specs.Step.{nextRun, kindFits, reportAnswer, step}
+use Rattle.promises.specs.Demands.{Sized, JobOf, jobRun}
+use Rattle.promises.specs.General.{joined, is-accepted, both-accepted, unless-holds, zip-every}
+use Rattle.promises.specs.InOrder.{InOrder, in-order}
+use Rattle.promises.specs.ChoiceLaws.{Ready, chosen-ready}
+use Rattle.promises.specs.NextLaws.{next-plan, next-t, next-hi, next-lo, next-length, entryAfter, entry-next, holds-after}
+
+-- ---- an accepted step
+
+-- what it means that a report is accepted
+pub record Taken (r : Run) (report : Report) : Type 0 where
+  pub whole : coherent r ≡ true
+  pub more : r .t < r .plan .slots
+  pub slot : report .slot ≡ r .t
+  pub fits : kindFits (chosen r) (report .kind) ≡ true
+
+-- the answer of a step is that of its report
+accepted-report : (r : Run) (report : Report) → step r report .answer ≡ Accepted → accepted (reportAnswer r report) ≡ true
+unfolding step
+accepted-report r report = go (accepted (reportAnswer r report)) refl
+  where
+    go : (b : Bool) → accepted (reportAnswer r report) ≡ b → step r report .answer ≡ Accepted → accepted (reportAnswer r report) ≡ true
+    go true e h = e
+    go false e h = is-accepted (reportAnswer r report) (rw e at h)
+
+-- an accepted step hands back the next run
+pub next-run : (r : Run) (report : Report) → step r report .answer ≡ Accepted → step r report .run ≡ nextRun r (chosen r) (report .kind)
+unfolding step
+next-run r report h = rw (accepted-report r report h)
+
+pub taken : (r : Run) (report : Report) → step r report .answer ≡ Accepted → Taken r report
+unfolding reportAnswer canGoOn accepted
+taken r report h =
+    let a = both-accepted (canGoOn r) _ (accepted-report r report h) in
+    let b = both-accepted (Incoherent unless coherent r) (Over (r .t) unless (r .t <? r .plan .slots)) (a .0) in
+    let c = both-accepted (OtherSlot (r .t) unless (report .slot =? r .t)) (WrongKind (r .t) unless kindFits (chosen r) (report .kind)) (a .1) in
+    record {
+      whole = unless-holds Incoherent (coherent r) refl (b .0);
+      more = ltb-true (r .t) (r .plan .slots) (unless-holds (Over (r .t)) (r .t <? r .plan .slots) refl (b .1));
+      slot = eqb-true (report .slot) (r .t) (unless-holds (OtherSlot (r .t)) (report .slot =? r .t) refl (c .0));
+      fits = unless-holds (WrongKind (r .t)) (kindFits (chosen r) (report .kind)) refl (c .1);
+    }
+
+-- and the other way: exactly these reports are accepted
+pub taken-accepted : (r : Run) (report : Report) → Taken r report → step r report .answer ≡ Accepted
+unfolding step reportAnswer canGoOn accepted
+taken-accepted r report w = rw (w .whole, lt-ltb (r .t) (r .plan .slots) (w .more), eq-eqb (report .slot) (r .t) (w .slot), w .fits)
+
+-- ---- the record of a run that comes from a start
+
+-- everything that coherence asks, and more: the record's own lengths, and rows that are the fresh ones as lists
+pub record Recorded (r : Run) : Type 0 where
+  pub well : accepted (wellFormed (r .plan)) ≡ true
+  pub order : InOrder (r .plan)
+  pub long : length (r .job) ≡ maxJobs
+  pub time : r .t ≤ r .plan .slots
+  pub holds : (k : ℕ) → JobOf (r .plan) k → standingHolds (r .t) (jobNo (r .plan) k .hi) (entryNo r k .given) (entryNo r k .standing) ≡ true
+  pub hi : r .hi ≡ freshHi r
+  pub lo : r .lo ≡ freshLo r
+
+-- every row is the same as itself
+same-spare : (z : ℤ) → sameSpare z z ≡ true
+same-spare (pos n) = eq-eqb n n refl
+same-spare (negsuc n) = eq-eqb n n refl
+
+same-row : (zs : List ℤ) → sameRow zs zs ≡ true
+unfolding sameRow zipWith every
+same-row [] = refl
+same-row (z ∷ zs) = joined (sameSpare z z) (sameRow zs zs) (same-spare z) (same-row zs)
+
+module _ (r : Run) (w : Recorded r) where
+  -- the plan's jobs are in its array, and their entries in the run's
+  pub js-fit : r .plan .jobs ≤ length (r .plan .job)
+  js-fit = let a = w .order .jobs in let b = w .order .sized .0 in omega arith
+
+  pub es-fit : r .plan .jobs ≤ length (r .job)
+  es-fit = let a = w .order .jobs in let b = w .long in omega arith
+
+  entries-hold : entriesHold r ≡ true
+  unfolding entriesHold
+  entries-hold = zip-every (λ j e. standingHolds (r .t) (j .hi) (e .given) (e .standing)) blankJob freshEntry (jobsOf (r .plan)) (r .job) each
+    where
+      each : (i : ℕ) → i < length (jobsOf (r .plan)) → i < length (r .job)
+          → standingHolds (r .t) (getD (jobsOf (r .plan)) i blankJob .hi) (getD (r .job) i freshEntry .given) (getD (r .job) i freshEntry .standing) ≡ true
+      each i l m =
+          let h : i < r .plan .jobs = rw (length-take-le (r .plan .jobs) (r .plan .job) js-fit) at l in
+          let e : suc i - 1 ≡ i = omega arith in
+          rw (getD-take (r .plan .jobs) (r .plan .job) i blankJob h) (rw e at (w .holds (suc i) (omega arith, h)))
+
+  -- so it is coherent
+  pub recorded-coherent : coherent r ≡ true
+  unfolding coherent
+  recorded-coherent =
+      let hi : sameRow (r .hi) (freshHi r) ≡ true = rw (← w .hi) (same-row (r .hi)) in
+      let lo : sameRow (r .lo) (freshLo r) ≡ true = rw (← w .lo) (same-row (r .lo)) in
+      rw (w .well, le-leb (r .t) (r .plan .slots) (w .time), entries-hold, hi, lo)
+
+  -- what is chosen is a ready job of the plan
+  pub chosen-is-ready : r .t < r .plan .slots → (m : ℕ) → chosen r ≡ Slot.Job m → JobOf (r .plan) m × Ready r m
+  chosen-is-ready more = chosen-ready r js-fit es-fit (w .order) more
+
+-- a slot is job k's own where it went to job k
+pub own-slot : (slot : Slot) (k : ℕ) → 1 ≤ k → (jobRun slot =? k) ≡ true → slot ≡ Slot.Job k
+own-slot Slot.Idle k l e = absurd (let z = eqb-true 0 k e in omega arith)
+own-slot (Slot.Job m) k l e = ap {B = Slot} Slot.Job (eqb-true m k e)
+
+-- `none` fits no slot with a job
+none-fits-idle : (slot : Slot) (k : ℕ) (kind : Kind) → slot ≡ Slot.Job k → kindFits slot kind ≡ true → kind ≡ None → ⊥
+unfolding kindFits
+none-fits-idle slot k kind e h q = false≢true (rw (e, q) at h)
+
+module _ (r : Run) (w : Recorded r) (report : Report) (ok : Taken r report) where
+  -- only a live job has the slot
+  pub own-live : (k : ℕ) → 1 ≤ k → (jobRun (chosen r) =? k) ≡ true → live (entryNo r k) ≡ true
+  own-live k l e = chosen-is-ready r w (ok .more) k (own-slot (chosen r) k l e) .1 .0
+
+  pub own-named : (m : ℕ) → chosen r ≡ Slot.Job m → 1 ≤ m
+  own-named m e = chosen-is-ready r w (ok .more) m e .0 .0
+
+  -- the entry of job k in the next run
+  pub next-entry : (k : ℕ) → JobOf (r .plan) k
+      → entryNo (nextRun r (chosen r) (report .kind)) k ≡ entryAfter (r .t + 1) (jobNo (r .plan) k) (jobRun (chosen r) =? k) (report .kind) (entryNo r k)
+  next-entry k l = entry-next r (report .kind) k l (es-fit r w) (chosen r) own-named (js-fit r w)
+
+  next-holds : (k : ℕ) → JobOf (r .plan) k
+      → standingHolds (r .t + 1) (jobNo (r .plan) k .hi) (entryNo (nextRun r (chosen r) (report .kind)) k .given) (entryNo (nextRun r (chosen r) (report .kind)) k .standing) ≡ true
+  next-holds k l =
+      rw (next-entry k l)
+      (holds-after (r .t) (jobNo (r .plan) k) (jobRun (chosen r) =? k) (report .kind) (entryNo r k) (own-live k (l .0))
+      (λ e. none-fits-idle (chosen r) k (report .kind) (own-slot (chosen r) k (l .0) e) (ok .fits))
+      (w .holds k l))
+
+  -- an accepted step keeps the record
+  pub next-recorded : Recorded (nextRun r (chosen r) (report .kind))
+  next-recorded =
+      let plan = next-plan r (chosen r) (report .kind) in
+      let t = next-t r (chosen r) (report .kind) in
+      record {
+        well = rw plan (w .well);
+        order = rw plan (w .order);
+        long = next-length r (chosen r) (report .kind) ∙ w .long;
+        time = rw (plan, t) (let m = ok .more in omega arith);
+        holds = rw (plan, t) next-holds;
+        hi = next-hi r (chosen r) (report .kind);
+        lo = next-lo r (chosen r) (report .kind);
+      }
+
+-- ---- the start
+
+-- a list joined with n copies of one thing
+zip-replicate : {A B C : Type 0} (f : A → B → C) (y : B) (n : ℕ) (xs : List A) → length xs ≤ n → zipWith f xs (replicate n y) ≡ map (λ x. f x y) xs
+unfolding zipWith
+zip-replicate f y n [] l = refl
+zip-replicate f y zero (x ∷ xs) l = absurd (not-suc-le-zero l)
+zip-replicate {C = C} f y (suc n) (x ∷ xs) l = ap {B = List C} (λ t. f x y ∷ t) (zip-replicate f y n xs (le-of-suc-le-suc l))
+
+-- an accepted start: the plan is accepted, and its run is the new one
+pub start-accepted : (p : Plan) → start p .answer ≡ Accepted → accepted (acceptance p) ≡ true
+unfolding start
+start-accepted p = go (accepted (acceptance p)) refl
+  where
+    go : (b : Bool) → accepted (acceptance p) ≡ b → start p .answer ≡ Accepted → accepted (acceptance p) ≡ true
+    go true e h = e
+    go false e h = is-accepted (acceptance p) (rw e at h)
+
+pub start-run : (p : Plan) → start p .answer ≡ Accepted → start p .run ≡ newRun p
+unfolding start
+start-run p h = rw (start-accepted p h)
+
+pub accepted-well-formed : (p : Plan) → accepted (acceptance p) ≡ true → accepted (wellFormed p) ≡ true
+unfolding acceptance
+accepted-well-formed p h = both-accepted (wellFormed p) (check8 p andThen check9 p) h .0
+
+module _ (p : Plan) (sz : Sized p) (well : accepted (wellFormed p) ≡ true) where
+  ok : InOrder p
+  ok = in-order p sz well
+
+  few : length (jobsOf p) ≤ maxJobs
+  few =
+      let a = ok .jobs in
+      let b : p .jobs ≤ length (p .job) = (let c = sz .0 in omega arith) in
+      rw (length-take-le (p .jobs) (p .job) b) a
+
+  pub fresh-at : (k : ℕ) → JobOf p k → entryNo (newRun p) k ≡ freshEntry
+  fresh-at k l =
+      let a = l .0 in
+      let b = l .1 in
+      let c = ok .jobs in
+      getD-replicate maxJobs (k - 1) freshEntry freshEntry (omega arith)
+
+  start-holds : (k : ℕ) → JobOf p k → standingHolds 0 (jobNo p k .hi) (entryNo (newRun p) k .given) (entryNo (newRun p) k .standing) ≡ true
+  unfolding standingHolds
+  start-holds k l = rw (fresh-at k l) (let a = ok .some k l in let b = ok .budget k l in lt-ltb 0 (jobNo p k .hi) (omega arith))
+
+  pub start-recorded : Recorded (newRun p)
+  unfolding freshHi freshLo hiWork loWork
+  start-recorded = record {
+    well = well;
+    order = ok;
+    long = length-replicate maxJobs freshEntry;
+    time = zero-le;
+    holds = start-holds;
+    hi = rw (zip-replicate (λ j e. hiLeft j (live e) (e .given)) freshEntry maxJobs (jobsOf p) few);
+    lo = rw (zip-replicate (λ j e. loLeft j (live e) (e .given)) freshEntry maxJobs (jobsOf p) few);
+  }
