@@ -3,7 +3,7 @@ use Prim.Native.Nat.{ℕ, zero, suc, _+_, _≤_, _<_, zero-le}
 use native.Mathlib.Decide.{decLe}
 use native.Mathlib.Omega.{arith}
 use mathlib.Core.Path.{_≡_, refl, sym, _∙_}
-use mathlib.Core.List.{List, [], _∷_, _++_}
+use mathlib.Core.List.{List, [], _∷_}
 use lib.ListN.{getD, take, drop, take-append-drop, length-take, drop-of-length-le}
 use lib.Seq.{take-take}
 use Rattle.windows.specs.Sums.{same}
@@ -12,13 +12,8 @@ use Rattle.windows.specs.Orders.{given}
 use Rattle.windows.specs.SlotLaws.{given-last, given-split, given-empty, given-reach}
 use Rattle.plan.specs.declared.Plan.{Plan}
 use Rattle.plan.specs.Plan.{naming, tableAt}
+use Rattle.plan.specs.CountLaws.{naming-append}
 use Rattle.acceptance_promise.specs.Promise.{tab}
-
--- the names in two lists end to end
-naming-append : (k : ℕ) (xs ys : List ℕ) → naming k (xs ++ ys) ≡ naming k xs + naming k ys
-unfolding naming
-naming-append k [] ys = omega arith
-naming-append k (x ∷ xs) ys = let r = naming-append k xs ys in omega arith
 
 -- one slot more
 naming-last : (xs : List ℕ) (k b : ℕ) → naming (suc k) (take (suc b) xs) ≡ naming (suc k) (take b xs) + same (getD xs b 0) (suc k)
