@@ -5,3 +5,4 @@ pub mod RuleLaws
 pub mod Counts
 pub mod CountLaws
 pub mod Same
+pub mod SameLaws
