@@ -1,2 +1,4 @@
 pub mod Acceptance
 pub mod Analysis
+pub mod Rising
+pub mod RisingLaws
