@@ -1,0 +1,4 @@
+pub mod Print
+pub mod Check
+pub mod Run
+pub mod PlanA
