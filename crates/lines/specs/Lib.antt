@@ -5,3 +5,5 @@ pub mod Reading
 pub mod ReadingLaws
 pub mod ManyLaws
 pub mod ForwardLaws
+pub mod Writing
+pub mod WritingLaws
