@@ -1,4 +1,9 @@
-//! The independent implementation (`model`), inputs by chance (`random`) and the product behind its C functions.
+//! The independent implementation (`model`), inputs by chance (`random`), the comparison and the speed table.
 
+pub mod compare;
 pub mod model;
+#[cfg(feature = "product")]
+pub mod product;
 pub mod random;
+pub mod runtime;
+pub mod speed;

@@ -9,7 +9,9 @@ mod reports;
 mod texts;
 
 pub use mix::Mix;
+pub use plans::largest;
 pub use records::{plan_record, run_record};
+pub use reports::{line as report_line, whole_run};
 
 use crate::model::write_plan;
 use crate::model::Plan;

@@ -5,9 +5,22 @@ use crate::model::{analyse, Job, Level, Plan, JOBS, SLOTS};
 
 /// A plan that passes 2 to 7. Most of them pass 8 and 9 too.
 pub fn plan(rng: &mut Rng) -> Plan {
-    let mut plan = if rng.chance(90) { crowded(rng) } else { spread(rng) };
+    let sizes = sizes(rng);
+    let mut plan = if rng.chance(90) { crowded(rng, sizes) } else { spread(rng) };
     raise_budgets(rng, &mut plan);
     plan
+}
+
+/// An accepted plan of the largest size, with room for its HI jobs to overrun.
+pub fn largest(rng: &mut Rng) -> Plan {
+    loop {
+        let mut plan = crowded(rng, (SLOTS as u16, JOBS as u16));
+        raise_budgets(rng, &mut plan);
+        let overruns = plan.planned().iter().filter(|job| job.lo < job.hi).count();
+        if analyse(&plan).is_ok() && overruns >= JOBS / 4 {
+            return plan;
+        }
+    }
 }
 
 /// HI by this chance, otherwise LO.
@@ -41,12 +54,17 @@ fn spread(rng: &mut Rng) -> Plan {
     plan
 }
 
-/// A plan whose windows lie across each other.
-fn crowded(rng: &mut Rng) -> Plan {
+/// Sizes of a plan by chance, often the largest of their kind.
+fn sizes(rng: &mut Rng) -> (u16, u16) {
     let (most_slots, most_jobs) = rng.pick(&[(3, 2), (8, 4), (12, 4), (24, 6), (40, 12), (100, 20), (512, 32)]);
-    let mut plan = Plan::BLANK;
-    plan.slots = if rng.chance(30) { most_slots } else { rng.range(1, most_slots) };
-    plan.jobs = if rng.chance(20) { most_jobs.min(plan.slots) } else { rng.range(1, most_jobs.min(plan.slots)) };
+    let slots = if rng.chance(30) { most_slots } else { rng.range(1, most_slots) };
+    let most_jobs = most_jobs.min(slots);
+    (slots, if rng.chance(20) { most_jobs } else { rng.range(1, most_jobs) })
+}
+
+/// A plan whose windows lie across each other.
+fn crowded(rng: &mut Rng, (slots, jobs): (u16, u16)) -> Plan {
+    let mut plan = Plan { slots, jobs, ..Plan::BLANK };
     let hi_share = rng.pick(&[20, 50, 50, 80]);
     let mut free: Vec<u16> = (0..plan.slots).collect();
     for k in 0..usize::from(plan.jobs) {

@@ -3,7 +3,8 @@
 use super::Rng;
 use crate::model::{Kind, Plan, Report, Run, Slot};
 
-fn line(slot: u16, kind: Kind) -> String {
+/// A report's line.
+pub fn line(slot: u16, kind: Kind) -> String {
     let word = match kind {
         Kind::End => "end",
         Kind::More => "more",
@@ -40,7 +41,8 @@ pub fn reports(rng: &mut Rng, plan: &Plan) -> Vec<u8> {
     ]);
     let leaves = rng.chance(35);
     let last = if rng.chance(if leaves { 20 } else { 80 }) { plan.slots } else { rng.range(0, plan.slots) };
-    let (mut text, run) = follow(rng, run, manner, last);
+    let (kinds, run) = follow(rng, run, manner, last);
+    let mut text: String = (0..).zip(kinds).map(|(slot, kind)| line(slot, kind)).collect();
     if leaves {
         text.push_str(&leave(rng, &run));
         for slot in 0..rng.range(0, 2) {
@@ -50,20 +52,25 @@ pub fn reports(rng: &mut Rng, plan: &Plan) -> Vec<u8> {
     text.into_bytes()
 }
 
+/// Kinds that carry a run of an accepted plan to its end, the HI jobs overrunning.
+pub fn whole_run(rng: &mut Rng, plan: &Plan) -> Vec<Kind> {
+    let run = Run::start(plan).expect("an accepted plan");
+    follow(rng, run, Manner::Overrunning, plan.slots).0
+}
+
 fn any_kind(rng: &mut Rng) -> Kind {
     rng.pick(&[Kind::End, Kind::More, Kind::None])
 }
 
-/// The lines of a run up to border `last`, and the run there.
-fn follow(rng: &mut Rng, mut run: Run, manner: Manner, last: u16) -> (String, Run) {
-    let mut text = String::new();
+/// The kinds of a run up to border `last`, and the run there.
+fn follow(rng: &mut Rng, mut run: Run, manner: Manner, last: u16) -> (Vec<Kind>, Run) {
+    let mut kinds = Vec::new();
     while run.t < last {
-        let kind = right_kind(rng, &run, manner);
-        text.push_str(&line(run.t, kind));
-        let slot = run.t;
-        run.step(Report { slot, kind }).expect("a kind that fits the choice");
+        let report = Report { slot: run.t, kind: right_kind(rng, &run, manner) };
+        run.step(report).expect("a kind that fits the choice");
+        kinds.push(report.kind);
     }
-    (text, run)
+    (kinds, run)
 }
 
 /// A kind that fits the coming slot.

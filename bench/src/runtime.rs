@@ -1,0 +1,88 @@
+//! What can be asked of a runtime from outside, on texts alone; the model and the product both answer it.
+
+use crate::model::{self, analyse, read_plan, write_plan, Kind, Report, Run};
+
+/// The calls of INTERFACE.md. Each works on the caller's text and buffer and keeps nothing between calls.
+pub trait Runtime {
+    /// The check program's output for this input, at the start of `out`; its length.
+    fn check(&self, text: &[u8], out: &mut [u8]) -> usize;
+    /// The run program's output for this input, at the start of `out`; its length.
+    fn run(&self, text: &[u8], out: &mut [u8]) -> usize;
+    /// Reads a plan; the answer's number.
+    fn read(&self, text: &[u8]) -> u16;
+    /// Reads a plan and writes it again; the bytes written, 0 for a refusal.
+    fn write(&self, text: &[u8], out: &mut [u8]) -> usize;
+    /// Reads a plan and analyses it; the answer's number.
+    fn analyse(&self, text: &[u8]) -> u16;
+    /// Reads a plan, starts it and steps it by one kind for each slot; the number of the last answer.
+    fn walk(&self, text: &[u8], kinds: &[u8]) -> u16;
+}
+
+/// Room for every output of the programs, and for every text of a plan.
+pub const ROOM: usize = 64 * 1024;
+
+/// A kind as the byte that `walk` takes.
+pub fn kind_byte(kind: Kind) -> u8 {
+    match kind {
+        Kind::None => 0,
+        Kind::End => 1,
+        Kind::More => 2,
+    }
+}
+
+fn kind_of(byte: u8) -> Kind {
+    match byte {
+        0 => Kind::None,
+        1 => Kind::End,
+        _ => Kind::More,
+    }
+}
+
+/// The implementation in this crate.
+pub struct Model;
+
+impl Model {
+    fn walk_from(text: &[u8], kinds: &[u8]) -> Result<(), model::Refusal> {
+        let mut run = Run::start(&read_plan(text)?)?;
+        for &kind in kinds {
+            let slot = run.t;
+            run.step(Report { slot, kind: kind_of(kind) })?;
+        }
+        Ok(())
+    }
+}
+
+fn copied(output: Vec<u8>, out: &mut [u8]) -> usize {
+    out[..output.len()].copy_from_slice(&output);
+    output.len()
+}
+
+fn number<T>(answer: Result<T, model::Refusal>) -> u16 {
+    answer.map_or_else(model::Refusal::number, |_| 0)
+}
+
+impl Runtime for Model {
+    fn check(&self, text: &[u8], out: &mut [u8]) -> usize {
+        copied(model::check_output(text), out)
+    }
+
+    fn run(&self, text: &[u8], out: &mut [u8]) -> usize {
+        copied(model::run_output(text), out)
+    }
+
+    fn read(&self, text: &[u8]) -> u16 {
+        number(std::hint::black_box(read_plan(text)))
+    }
+
+    fn write(&self, text: &[u8], out: &mut [u8]) -> usize {
+        read_plan(text).and_then(|plan| write_plan(&plan, out)).unwrap_or(0)
+    }
+
+    fn analyse(&self, text: &[u8]) -> u16 {
+        number(std::hint::black_box(read_plan(text).and_then(|plan| analyse(&plan))))
+    }
+
+    fn walk(&self, text: &[u8], kinds: &[u8]) -> u16 {
+        number(Model::walk_from(text, kinds))
+    }
+}
