@@ -1,20 +1,21 @@
 -- The join of the acceptance promise to the checks: a plan record that passes 2 to 7 is in order.
-use Prim.Native.Nat.{ℕ, suc, _+_, _-_, _≤_, _<_}
+use Prim.Native.Nat.{ℕ, suc, _+_, _-_, _≤_, _<_, suc-le-suc, zero-le}
 use native.Mathlib.Omega.{arith}
 use mathlib.Core.Path.{_≡_, refl, _∙_}
 use mathlib.Core.Logic.{⊎-elim}
-use mathlib.Core.Bool.{true, false, _&&_, _||_}
+use mathlib.Core.Bool.{Bool, true, false, _&&_, _||_}
+use mathlib.Core.List.{List, [], _∷_, map}
 use lib.ListN.{length, getD}
 use lib.Seq.{getD-take, length-take-le}
-use borrow.Author.Tests.{leb-true, ltb-true, eqb-true}
-use Rattle.words.specs.Words.{_≤?_, _<?_, _=?_}
+use borrow.Author.Tests.{leb-true, ltb-true, eqb-true, le-leb, lt-ltb}
+use Rattle.words.specs.Words.{every, _≤?_, _<?_, _=?_}
 use Rattle.answers.specs.declared.Answer.the-variants.{SlotLimit, JobLimit, Window, Budget, TableSlot, TableCount}
 use Rattle.answers.specs.Answer.{accepted, _unless_, _andThen_}
 use Rattle.plan.specs.declared.Job.{Job}
 use Rattle.plan.specs.declared.Plan.{Plan}
 use Rattle.plan.specs.Limits.{maxSlots, maxJobs, oneTo}
 use Rattle.plan.specs.Plan.{jobsOf, slotsOf, blankJob, jobNo, isHi, tableAt, naming}
-use Rattle.plan.specs.Rules.{check2, check3, windowHolds, budgetHolds}
+use Rattle.plan.specs.Rules.{check2, check3, windowHolds, budgetHolds, windowsHold}
 use Rattle.acceptance.specs.Acceptance.{check4, check5, check6, check7, slotHolds, wellFormed}
 use Rattle.acceptance_promise.specs.Promise.{jobAt, InOrder}
 use Rattle.acceptance_promise.specs.RefusalLaws.{never, both-true, either-true, unless-holds, both-accept, each-accepted}
@@ -27,6 +28,19 @@ within-limit limit n h = let b = both-true (1 ≤? n) (n ≤? limit) h in (leb-t
 window-says : (N : ℕ) (j : Job) → windowHolds N j ≡ true → (j .release < j .deadline) × (j .deadline ≤ N)
 unfolding windowHolds
 window-says N j h = let b = both-true (j .release <? j .deadline) (j .deadline ≤? N) h in (ltb-true (j .release) (j .deadline) (b .0), leb-true (j .deadline) N (b .1))
+
+-- and holds where that is so
+window-holds : (N : ℕ) (j : Job) → j .release < j .deadline → j .deadline ≤ N → windowHolds N j ≡ true
+unfolding windowHolds
+window-holds N j a b = rw (lt-ltb (j .release) (j .deadline) a, le-leb (j .deadline) N b)
+
+-- a test that each member of a list passes
+every-true : {A : Type 0} (test : A → Bool) (d : A) (xs : List A) → ((i : ℕ) → i < length xs → test (getD xs i d) ≡ true) → every (map test xs) ≡ true
+unfolding every
+every-true test d [] h = refl
+every-true test d (x ∷ xs) h =
+    let first : test x ≡ true = h 0 (suc-le-suc zero-le) in
+    rw first (every-true test d xs (λ i l. h (suc i) (suc-le-suc l)))
 
 -- what budgets that hold say
 budget-says : (N : ℕ) (j : Job) → budgetHolds N j ≡ true → (1 ≤ j .lo) × (j .lo ≤ j .hi) × (isHi j ≡ false → j .lo ≡ j .hi)
@@ -57,6 +71,10 @@ slot-says p s k h = ⊎-elim (λ z. absurd (let e = eqb-true (suc k) 0 z in omeg
         let b = both-true (suc k ≤? p .jobs) (jobAt p k .release ≤? s) (a .0) in
         (leb-true (suc k) (p .jobs) (b .0), leb-true (jobAt p k .release) s (b .1), ltb-true s (jobAt p k .deadline) (a .1))
 
+-- the job at place k, among the first n
+pub among-jobs : (p : Plan) (k : ℕ) → k < p .jobs → getD (jobsOf p) k blankJob ≡ jobAt p k
+among-jobs p k l = getD-take (p .jobs) (p .job) k blankJob l
+
 module _ (p : Plan) (longJob : length (p .job) ≡ maxJobs) (longTable : length (p .table) ≡ maxSlots) (passes : accepted (wellFormed p) ≡ true) where
   -- each check passes
   record Passed : Type 0 where
@@ -85,26 +103,22 @@ module _ (p : Plan) (longJob : length (p .job) ≡ maxJobs) (longTable : length 
   unfolding check3 accepted
   job-limit = within-limit maxJobs (p .jobs) (unless-holds JobLimit (oneTo maxJobs (p .jobs)) refl (all-passed .three))
 
-  -- the job at place k, among the first n
   long-jobs : length (jobsOf p) ≡ p .jobs
   long-jobs = length-take-le (p .jobs) (p .job) (omega (arith, job-limit))
-
-  among-jobs : (k : ℕ) → k < p .jobs → getD (jobsOf p) k blankJob ≡ jobAt p k
-  among-jobs k l = getD-take (p .jobs) (p .job) k blankJob l
 
   windows : (k : ℕ) → k < p .jobs → (jobAt p k .release < jobAt p k .deadline) × (jobAt p k .deadline ≤ p .slots)
   unfolding check4 accepted
   windows k l =
       let h = each-accepted (λ k j. Window k unless windowHolds (p .slots) j) blankJob 1 (jobsOf p) (all-passed .four) k (rw long-jobs l) (1 + k) refl in
       let w = unless-holds (Window (1 + k)) (windowHolds (p .slots) (getD (jobsOf p) k blankJob)) refl h in
-      window-says (p .slots) (jobAt p k) (rw (among-jobs k l) at w)
+      window-says (p .slots) (jobAt p k) (rw (among-jobs p k l) at w)
 
   budgets : (k : ℕ) → k < p .jobs → (1 ≤ jobAt p k .lo) × (jobAt p k .lo ≤ jobAt p k .hi) × (isHi (jobAt p k) ≡ false → jobAt p k .lo ≡ jobAt p k .hi)
   unfolding check5 accepted
   budgets k l =
       let h = each-accepted (λ k j. Budget k unless budgetHolds (p .slots) j) blankJob 1 (jobsOf p) (all-passed .five) k (rw long-jobs l) (1 + k) refl in
       let w = unless-holds (Budget (1 + k)) (budgetHolds (p .slots) (getD (jobsOf p) k blankJob)) refl h in
-      budget-says (p .slots) (jobAt p k) (rw (among-jobs k l) at w)
+      budget-says (p .slots) (jobAt p k) (rw (among-jobs p k l) at w)
 
   names : (s : ℕ) → s < p .slots → (k : ℕ) → tableAt p s ≡ suc k → (k < p .jobs) × (jobAt p k .release ≤ s) × (s < jobAt p k .deadline)
   unfolding check6 accepted
@@ -120,12 +134,14 @@ module _ (p : Plan) (longJob : length (p .job) ≡ maxJobs) (longTable : length 
   full k l =
       let h = each-accepted (λ k j. TableCount k unless (naming k (slotsOf p) =? j .lo)) blankJob 1 (jobsOf p) (all-passed .seven) k (rw long-jobs l) (suc k) (omega arith) in
       let w = unless-holds (TableCount (suc k)) (naming (suc k) (slotsOf p) =? getD (jobsOf p) k blankJob .lo) refl h in
-      eqb-true (naming (suc k) (slotsOf p)) (jobAt p k .lo) (rw (among-jobs k l) at w)
+      eqb-true (naming (suc k) (slotsOf p)) (jobAt p k .lo) (rw (among-jobs p k l) at w)
 
   -- a plan that passes 2 to 7 is in order
   pub in-order : InOrder p
   in-order =
       record {
+        jobArray = longJob;
+        tableArray = longTable;
         slots = slot-limit;
         jobs = job-limit;
         window = λ k l. windows k l .0;
@@ -136,3 +152,24 @@ module _ (p : Plan) (longJob : length (p .job) ≡ maxJobs) (longTable : length 
         names = names;
         full = full;
       }
+
+module _ (p : Plan) (ok : InOrder p) where
+  -- the list of the first n jobs has n
+  pub jobs-length : length (jobsOf p) ≡ p .jobs
+  jobs-length = length-take-le (p .jobs) (p .job) (omega (arith, ok .jobArray, ok .jobs))
+
+  -- the list of the first N slots has N
+  pub slots-length : length (slotsOf p) ≡ p .slots
+  slots-length = length-take-le (p .slots) (p .table) (omega (arith, ok .tableArray, ok .slots))
+
+  -- so such a plan has intervals
+  pub windows-hold : windowsHold p ≡ true
+  unfolding windowsHold
+  windows-hold =
+      rw (le-leb 1 (p .slots) (ok .slots .0), le-leb (p .slots) maxSlots (ok .slots .1), le-leb 1 (p .jobs) (ok .jobs .0), le-leb (p .jobs) maxJobs (ok .jobs .1))
+      (every-true (windowHolds (p .slots)) blankJob (jobsOf p) each)
+    where
+      each : (k : ℕ) → k < length (jobsOf p) → windowHolds (p .slots) (getD (jobsOf p) k blankJob) ≡ true
+      each k l =
+          let m : k < p .jobs = rw jobs-length at l in
+          rw (among-jobs p k m) (window-holds (p .slots) (jobAt p k) (ok .window k m) (ok .ends k m))

@@ -5,3 +5,8 @@ pub mod OneSlot
 pub mod OneSlotLaws
 pub mod RefusalLaws
 pub mod InOrderLaws
+pub mod MemberLaws
+pub mod Chain
+pub mod ChainLaws
+pub mod Spares
+pub mod SpareLaws

@@ -3,7 +3,7 @@
 use Prim.Native.Nat.{ℕ, suc, _-_, _≤_, _<_}
 use mathlib.Core.Path.{_≡_}
 use mathlib.Core.Bool.{true, false}
-use lib.ListN.{getD}
+use lib.ListN.{length, getD}
 use Rattle.words.specs.Words.{_<?_}
 use Rattle.windows.specs.Windows.{Windows, within, InTime}
 use Rattle.plan.specs.declared.Job.{Job}
@@ -24,8 +24,10 @@ windowsOf p = record { count = p .jobs; release = λ k. jobAt p k .release; dead
 abbrev pub tab : Plan → ℕ → ℕ → ℕ
 tab p k t = tableSlots p t (suc k)
 
--- what checks 2 to 7 say of each job and each slot
+-- what checks 2 to 7 say of each job and each slot of a record whose arrays have their lengths
 pub record InOrder (p : Plan) : Type 0 where
+  pub jobArray : length (p .job) ≡ maxJobs
+  pub tableArray : length (p .table) ≡ maxSlots
   pub slots : (1 ≤ p .slots) × (p .slots ≤ maxSlots)
   pub jobs : (1 ≤ p .jobs) × (p .jobs ≤ maxJobs)
   pub window : (k : ℕ) → k < p .jobs → jobAt p k .release < jobAt p k .deadline
