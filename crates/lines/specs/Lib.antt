@@ -7,3 +7,4 @@ pub mod ManyLaws
 pub mod ForwardLaws
 pub mod Writing
 pub mod WritingLaws
+pub mod DecidedLaws

@@ -3,3 +3,4 @@ pub mod Write
 pub mod RoundLaws
 pub mod WriteLaws
 pub mod RoundTrip
+pub mod DecidedLaws
