@@ -12,8 +12,8 @@ use Rattle.plan.specs.Plan.{jobsOf, blankJob}
 use Rattle.intervals.specs.declared.Interval.{Interval}
 use Rattle.intervals.specs.Intervals.{leastRelease, gap, intervalsFrom, deadlines, intervals}
 use Rattle.acceptance_promise.specs.Promise.{jobAt, InOrder}
-use Rattle.acceptance_promise.specs.InOrderLaws.{among-jobs, jobs-length, windows-hold}
-use Rattle.acceptance_promise.specs.MemberLaws.{member-at, member-place, member-map, map-member, rising-has, rising-from, Above, none, next, rising-above, above-member}
+use Rattle.acceptance_promise.specs.InOrderLaws.{among-jobs, jobs-length, job-in, windows-hold}
+use Rattle.acceptance_promise.specs.MemberLaws.{member-place, member-map, map-member, rising-has, rising-from, Above, none, next, rising-above, above-member}
 use Rattle.acceptance_promise.specs.Chain.{Quiet, Chain, done, link}
 
 -- no job with deadline e is released before the least release
@@ -47,10 +47,6 @@ module _ (p : Plan) (ok : InOrder p) where
           let e : b ≡ a = omega arith in
           rw (le-ltb a b (omega arith)) (rw e at c)
 
-  -- the job at place k is one of the list
-  job-in : (k : ℕ) → k < p .jobs → List·Memᴰ (jobAt p k) (jobsOf p)
-  job-in k l = rw (among-jobs p k l) at (member-at blankJob (jobsOf p) k (rw (jobs-length p ok) l))
-
   -- from the end `a` on, es being the later deadlines
   chain-from : (a : ℕ) (es : List ℕ) → a ≤ p .slots → Above a es → Among a es → OfJobs es → Chain p a (intervalsFrom (jobsOf p) (p .slots) a es)
   unfolding intervalsFrom
@@ -70,7 +66,7 @@ module _ (p : Plan) (ok : InOrder p) where
       start = max a (leastRelease e (jobsOf p))
 
       room : start < e
-      room = omega (arith, least-release e (jobAt p (owner .0)) (jobsOf p) (job-in (owner .0) (owner .1)) (owner .2), ok .window (owner .0) (owner .1), owner .2)
+      room = omega (arith, least-release e (jobAt p (owner .0)) (jobsOf p) (job-in p ok (owner .0) (owner .1)) (owner .2), ok .window (owner .0) (owner .1), owner .2)
 
       -- e is the least deadline after a
       not-before : (k : ℕ) → k < p .jobs → a < jobAt p k .deadline → e ≤ jobAt p k .deadline
@@ -94,5 +90,5 @@ module _ (p : Plan) (ok : InOrder p) where
       rw (windows-hold p ok)
       (chain-from 0 (deadlines p) (omega arith)
       (rising-above 0 (map (λ (j : Job). j .deadline) (jobsOf p)) (λ e m. let o = of-jobs e (rising-has (map (λ (j : Job). j .deadline) (jobsOf p)) m) in omega (arith, ok .window (o .0) (o .1), o .2)))
-      (λ k l d. rising-has (map (λ (j : Job). j .deadline) (jobsOf p)) (member-map (λ (j : Job). j .deadline) (job-in k l)))
+      (λ k l d. rising-has (map (λ (j : Job). j .deadline) (jobsOf p)) (member-map (λ (j : Job). j .deadline) (job-in p ok k l)))
       of-jobs)

@@ -4,7 +4,7 @@ use native.Mathlib.Omega.{arith}
 use mathlib.Core.Path.{_≡_, refl, _∙_}
 use mathlib.Core.Logic.{⊎-elim}
 use mathlib.Core.Bool.{Bool, true, false, _&&_, _||_}
-use mathlib.Core.List.{List, [], _∷_, map}
+use mathlib.Core.List.{List, [], _∷_, map, List·Memᴰ}
 use lib.ListN.{length, getD}
 use lib.Seq.{getD-take, length-take-le}
 use borrow.Author.Tests.{leb-true, ltb-true, eqb-true, le-leb, lt-ltb}
@@ -18,6 +18,7 @@ use Rattle.plan.specs.Plan.{jobsOf, slotsOf, blankJob, jobNo, isHi, tableAt, na
 use Rattle.plan.specs.Rules.{check2, check3, windowHolds, budgetHolds, windowsHold}
 use Rattle.acceptance.specs.Acceptance.{check4, check5, check6, check7, slotHolds, wellFormed}
 use Rattle.acceptance_promise.specs.Promise.{jobAt, InOrder}
+use Rattle.acceptance_promise.specs.MemberLaws.{member-at}
 use Rattle.acceptance_promise.specs.RefusalLaws.{never, both-true, either-true, unless-holds, both-accept, each-accepted}
 
 -- 1 to the limit
@@ -157,6 +158,10 @@ module _ (p : Plan) (ok : InOrder p) where
   -- the list of the first n jobs has n
   pub jobs-length : length (jobsOf p) ≡ p .jobs
   jobs-length = length-take-le (p .jobs) (p .job) (omega (arith, ok .jobArray, ok .jobs))
+
+  -- the job at place k is one of the list
+  pub job-in : (k : ℕ) → k < p .jobs → List·Memᴰ (jobAt p k) (jobsOf p)
+  job-in k l = rw (among-jobs p k l) at (member-at blankJob (jobsOf p) k (rw jobs-length l))
 
   -- the list of the first N slots has N
   pub slots-length : length (slotsOf p) ≡ p .slots

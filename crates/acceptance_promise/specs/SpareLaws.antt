@@ -31,6 +31,10 @@ pub is-not-below : {z : ℤ} {p m : ℕ} → Is z p m → below0 z ≡ false →
 is-not-below {z = pos n} h t = omega arith
 is-not-below {z = negsuc n} h t = absurd (let z : _≡_ {A = ℕ} 0 1 = cc in omega arith)
 
+pub is-below : {z : ℤ} {p m : ℕ} → Is z p m → below0 z ≡ true → p < m
+is-below {z = pos n} h t = absurd (let z : _≡_ {A = ℕ} 0 1 = cc in omega arith)
+is-below {z = negsuc n} h t = omega arith
+
 pub not-below-is : {z : ℤ} {p m : ℕ} → Is z p m → m ≤ p → below0 z ≡ false
 not-below-is {z = pos n} h l = refl
 not-below-is {z = negsuc n} h l = absurd (omega arith)
@@ -246,3 +250,7 @@ module _ (p : Plan) (ok : InOrder p) (ws : List ℕ) where
           λ h. (let i = is-above (spare-least .3 .is) h in room-all spare-least 1 (omega arith) (omega (arith, due-past))),
           λ h. above-is (spare-least .3 .is) (omega (arith, all-room spare-least 1 (omega arith) h, due-past)),
         )
+
+        -- a current spare below 0 shows a border e by which more than e - t is due
+        pub below-shows : below0 (current p t (row p t ws)) ≡ true → (e : ℕ) × (e - t < due p ws e)
+        below-shows h = let i = is-below (spare-least .3 .is) h in (spare-least .3 .reached, omega (arith, due-past, spare-least .3 .from, spare-least .1))

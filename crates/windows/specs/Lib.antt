@@ -2,6 +2,7 @@ pub mod Sums
 pub mod SumLaws
 pub mod Windows
 pub mod WindowLaws
+pub mod TriedLaws
 pub mod Orders
 pub mod SlotLaws
 pub mod OrderLaws

@@ -1,0 +1,97 @@
+-- Check 9 passes exactly when A2 holds; a refusal shows a border by which too much may be asked. With check 8: what acceptance promises.
+use Prim.Native.Nat.{ℕ, zero, suc, _+_, _-_, _≤_, _<_}
+use native.Mathlib.Nat.{not-suc-le-zero, le-of-suc-le-suc}
+use native.Mathlib.Omega.{arith}
+use mathlib.Core.Path.{_≡_, refl, _∙_}
+use mathlib.Core.Logic.{_⊎_, inl, inr, ⊎-elim, _↔_}
+use mathlib.Core.Bool.{true, false, not}
+use mathlib.Core.List.{List, [], _∷_, zipWith}
+use lib.ListN.{length, getD}
+use borrow.Author.Tests.{not-true, not-false}
+use Rattle.words.specs.Words.{_<?_, below0}
+use Rattle.words.specs.Cases.{by-test}
+use Rattle.answers.specs.declared.Answer.the-variants.{Overdrawn}
+use Rattle.answers.specs.Answer.{accepted, _unless_, _andThen_}
+use Rattle.windows.specs.Windows.{dueBy, within, InTime}
+use Rattle.windows.specs.WindowLaws.{in-time-mono, due-mono}
+use Rattle.plan.specs.declared.Plan.{Plan}
+use Rattle.plan.specs.Limits.{maxSlots, maxJobs}
+use Rattle.plan.specs.Plan.{jobsOf, slotsOf, blankJob, countsAt}
+use Rattle.plan.specs.CountLaws.{counts-at, counts-length}
+use Rattle.intervals.specs.Spares.{hiLeft, row, current}
+use Rattle.acceptance.specs.Acceptance.{wellFormed, check8, alongTable, check9, acceptance}
+use Rattle.acceptance_promise.specs.Promise.{jobAt, windowsOf, tab, InOrder, hiOf, asked, A1, A2}
+use Rattle.acceptance_promise.specs.RefusalLaws.{never, both-accept, one-refused, unless-holds, unless-fails, each-accepted, some-refused}
+use Rattle.acceptance_promise.specs.InOrderLaws.{in-order, among-jobs, jobs-length, slots-length}
+use Rattle.acceptance_promise.specs.TableLaws.{asked-due}
+use Rattle.acceptance_promise.specs.SpareLaws.{not-below-exactly, below-shows}
+use Rattle.acceptance_promise.specs.Check8Laws.{a1-holds, a1-broken}
+
+-- what stands at a place of two lists put together
+pub zip-at : {A B C : Type 0} (f : A → B → C) (da : A) (db : B) (dc : C) (xs : List A) (ys : List B) (i : ℕ) → i < length xs → i < length ys → getD (zipWith f xs ys) i dc ≡ f (getD xs i da) (getD ys i db)
+unfolding zipWith
+zip-at f da db dc [] ys i l m = absurd (not-suc-le-zero l)
+zip-at f da db dc (x ∷ xs) [] i l m = absurd (not-suc-le-zero m)
+zip-at f da db dc (x ∷ xs) (y ∷ ys) zero l m = refl
+zip-at f da db dc (x ∷ xs) (y ∷ ys) (suc i) l m = zip-at f da db dc xs ys i (le-of-suc-le-suc l) (le-of-suc-le-suc m)
+
+module _ (p : Plan) (ok : InOrder p) where
+  -- the work along the table is what may be asked
+  along-asked : (t k : ℕ) → k < p .jobs → getD (alongTable p t) k 0 ≡ asked p t k
+  unfolding alongTable asked
+  along-asked t k l =
+      let few : k < maxJobs = (let b = ok .jobs in omega arith) in
+      let count : getD (countsAt p t) k 0 ≡ tab p k t = (let e : 1 + k ≡ suc k = omega arith in rw e at (counts-at p t k few)) in
+      zip-at (λ j c. hiLeft j (c <? j .lo) c) blankJob 0 0 (jobsOf p) (countsAt p t) k (rw (jobs-length p ok) l) (rw (counts-length p t) few)
+      ∙ rw (among-jobs p k l, count)
+
+  module _ (t : ℕ) (before : t < p .slots) where
+    -- nothing may be asked that is due at or before t
+    along-ahead : (k : ℕ) → k < p .jobs → jobAt p k .deadline ≤ t → getD (alongTable p t) k 0 ≡ 0
+    along-ahead k l h = along-asked t k l ∙ asked-due p ok t k l h
+
+    -- check 9 at border t
+    along-exactly : (below0 (current p t (row p t (alongTable p t))) ≡ false) ↔ InTime (windowsOf p) t (asked p t)
+    along-exactly =
+        let s = not-below-exactly p ok (alongTable p t) t before along-ahead in (
+          λ h. in-time-mono (windowsOf p) t (λ k. getD (alongTable p t) k 0) (asked p t) (λ k l. omega (arith, along-asked t k l)) (s .0 h),
+          λ h. s .1 (in-time-mono (windowsOf p) t (asked p t) (λ k. getD (alongTable p t) k 0) (λ k l. omega (arith, along-asked t k l)) h),
+        )
+
+  -- check 9 passes: A2 holds
+  pub a2-holds : accepted (check9 p) ≡ true → A2 p
+  unfolding check9 accepted
+  a2-holds passes t before =
+      let h = each-accepted (λ t _. Overdrawn t unless not (below0 (current p t (row p t (alongTable p t))))) 0 0 (slotsOf p) passes t (rw (slots-length p ok) before) t (omega arith) in
+      along-exactly t before .0 (not-true (below0 (current p t (row p t (alongTable p t)))) (unless-holds (Overdrawn t) (not (below0 (current p t (row p t (alongTable p t))))) refl h))
+
+  -- check 9 refuses: at some border too much may be asked
+  pub a2-broken : accepted (check9 p) ≡ false → (t e : ℕ) × (t < p .slots) × (e - t < dueBy (windowsOf p) (asked p t) e)
+  unfolding check9
+  a2-broken refused =
+      let x = some-refused (λ t _. Overdrawn t unless not (below0 (current p t (row p t (alongTable p t))))) 0 0 (slotsOf p) refused in
+      let t = x .1 in
+      let before : t < p .slots = (let l = rw (slots-length p ok) at (x .2) in omega (arith, x .3)) in
+      let low = not-false (below0 (current p t (row p t (alongTable p t)))) (unless-fails (Overdrawn t) (not (below0 (current p t (row p t (alongTable p t))))) (x .4)) in
+      let s = below-shows p ok (alongTable p t) t before (along-ahead t before) low in
+      (t, s .0, before, omega (arith, s .1, due-mono (windowsOf p) (asked p t) (λ k. getD (alongTable p t) k 0) (λ k l. omega (arith, along-asked t k l)) (s .0)))
+
+  -- A2: check 9 passes exactly when at no border too much may be asked along the table
+  pub a2-exactly : (accepted (check9 p) ≡ true) ↔ A2 p
+  a2-exactly = (a2-holds, λ a2. by-test (accepted (check9 p)) (λ h. h) (λ h. absurd (let x = a2-broken h in let m = a2 (x .0) (x .2) (x .1) in omega (arith, x .3))))
+
+-- ---- what acceptance promises
+-- an accepted plan is in order, and A1 and A2 hold
+pub accepted-promise : (p : Plan) → length (p .job) ≡ maxJobs → length (p .table) ≡ maxSlots → accepted (acceptance p) ≡ true → InOrder p × A1 p × A2 p
+unfolding acceptance
+accepted-promise p longJob longTable h =
+    let a = both-accept (wellFormed p) (check8 p andThen check9 p) h in
+    let b = both-accept (check8 p) (check9 p) (a .1) in
+    let ok = in-order p longJob longTable (a .0) in
+    (ok, a1-holds p ok (b .0), a2-holds p ok (b .1))
+
+-- a plan in order that is refused breaks A1 or A2
+pub refused-promise : (p : Plan) → InOrder p → accepted (wellFormed p) ≡ true → accepted (acceptance p) ≡ false
+    → ((a b : ℕ) × (b - a < within (windowsOf p) (hiOf p) a b)) ⊎ ((t e : ℕ) × (t < p .slots) × (e - t < dueBy (windowsOf p) (asked p t) e))
+unfolding acceptance
+refused-promise p ok passes h = ⊎-elim (λ w. absurd (never passes w)) (λ w. ⊎-elim (λ x. inl (a1-broken p ok x)) (λ x. inr (a2-broken p ok x)) (one-refused (check8 p) (check9 p) w)) (one-refused (wellFormed p) (check8 p andThen check9 p) h)
