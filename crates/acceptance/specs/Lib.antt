@@ -2,3 +2,4 @@ pub mod Acceptance
 pub mod Analysis
 pub mod Rising
 pub mod RisingLaws
+pub mod OverfullLaws
