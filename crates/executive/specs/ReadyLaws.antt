@@ -21,7 +21,7 @@ use Rattle.plan.specs.Plan.{jobNo, blankJob}
 use Rattle.executive.specs.declared.Entry.{Entry}
 use Rattle.executive.specs.declared.Run.{Run}
 use Rattle.executive.specs.declared.Slot.{Slot}
-use Rattle.executive.specs.Choice.{ready, readyHi, setOf, howMany, goesBefore, better, earliestFrom}
+use Rattle.executive.specs.Choice.{ready, readyHi, setOf, howMany, goesBefore, better, earliestFrom, earliest}
 use Rattle.executive.specs.ZipLaws.{zipped-length, zipped-at}
 use Rattle.executive.specs.Ready.{isMember, members, membersOf, slotOf, winner}
 
@@ -184,3 +184,10 @@ module _ (p : Plan) (w best b rest r : ℕ) (some : 0 < rest) (small : rest < 2 
       let e : trailingZeros w rest + 1 ≡ 1 + trailingZeros w rest = omega arith in
       let s : slotOf r ≡ better p (slotOf best) (1 + trailingZeros w rest) = ap slotOf won-by ∙ winner-better p best (trailingZeros w rest + 1) (omega arith) ∙ ap (better p (slotOf best)) e in
       rw s (walk-next p (slotOf best) 1 w rest some small)
+
+-- the walk over the set of a run's members
+pub walk-members : (hi : Bool) (r : Run) → Full r → earliest (r .plan) (membersOf maxJobs (setOf (members hi r))) ≡ earliest (r .plan) (members hi r)
+unfolding earliest
+walk-members hi r full =
+    let l = members-length hi r full in
+    walk-set (r .plan) Slot.Idle 1 maxJobs (members hi r) (omega arith)

@@ -3,7 +3,6 @@ ghost use mathlib.Core.Path.{_≡_};
 ghost use mathlib.Core.Bool.{_&&_};
 ghost use Prim.Native.Nat.{_<_};
 ghost use Rattle.words.specs.Words.{_≤?_};
-ghost use Rattle.plan.specs.Plan.{isHi};
 ghost use Rattle.executive.specs.Run.{live};
 ghost use Rattle.executive.specs.Coherent.{standingHolds};
 ghost use Rattle.executive.specs.Step.{standingAfter, ranOn, expiredEntry, pastLo, settled, kindFits};
@@ -12,17 +11,7 @@ use crate::Kind;
 use crate::Slot;
 use crate::Standing;
 use plan::Job;
-use plan::Level;
-
-pub(crate) fn is_hi(j: Job) -> bool
-    ensures { λ r. ⌜ r ≡ isHi j ⌝ }
-{
-    let level = j.level;
-    match level {
-        Level::Lo => false,
-        Level::Hi => true,
-    }
-}
+use plan::is_hi;
 
 pub(crate) fn is_live(e: Entry) -> bool
     ensures { λ r. ⌜ r ≡ live e ⌝ }

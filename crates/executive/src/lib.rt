@@ -1,9 +1,14 @@
 // The run of an accepted plan, slot by slot: start, coherence, choice, report, expiry, phase. Texts and programs are above.
+ghost use mathlib.Core.Path.{_≡_};
+ghost use Rattle.executive.specs.Run.{blankRun};
 use answers::Answer;
 use plan::Plan;
 
+mod choosing;
 mod entries;
 mod ready;
+mod stepping;
+mod work;
 
 // How a job stands: Waiting is live, the others are ended, with the border after that step.
 pub enum Standing {
@@ -66,4 +71,26 @@ pub struct Choice {
 pub struct Stepped {
     pub answer: Answer,
     pub run: Run,
+}
+
+// What a refused start hands back: the blank plan at border 0, every entry waiting with 0 given.
+pub fn blank_run() -> Run
+    ensures { λ r. ⌜ r ≡ blankRun ⌝ }
+{
+    let p = plan::blank_plan();
+    let e = Entry {
+        standing: Standing::Waiting,
+        given: 0,
+    };
+    let job = [e; plan::JOBS];
+    let hi = [0i32; intervals::INTERVALS];
+    let lo = [0i32; intervals::INTERVALS];
+    Run {
+        plan: p,
+        t: 0,
+        phase: Phase::T,
+        hi: hi,
+        lo: lo,
+        job: job,
+    }
 }

@@ -9,10 +9,10 @@ ghost use Rattle.executive.specs.Ready.{isMember, members, membersOf, sl
 use crate::Entry;
 use crate::Run;
 use crate::Slot;
-use crate::entries::is_hi;
 use crate::entries::is_live;
 use plan::Job;
 use plan::Plan;
+use plan::is_hi;
 
 // A ready job, or with `hi` a ready HI job.
 fn is_member(hi: bool, t: u16, j: Job, e: Entry) -> bool

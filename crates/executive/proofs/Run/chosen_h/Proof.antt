@@ -1,0 +1,29 @@
+-- `chosen_h` meets its contract: the current spares say whose set is walked.
+use Rattle.words.specs.ListLaws.{long}
+use Rattle.executive.specs.ReadyLaws.{Full}
+use Rattle.executive.specs.ChoiceLaws.{open-slot}
+use borrow.Author.Needs.{needs}
+use Rattle.executive.proofs.Run.chosen_h.Statement.{statement}
+use Rattle.executive.proofs.Run.chosen_h.Tie as tie
+
+full : (c : tie.Start) → Full (c .args .self)
+full c = record { few = c .pre .0 .few; jobs = search (needs, long); entries = search (needs, long) }
+
+open-to-all-requires : tie.Need-open-to-all-requires
+open-to-all-requires c κs = search needs
+
+ready-set-requires : tie.Need-ready-set-requires
+ready-set-requires c κs = search needs
+
+earliest-requires : tie.Need-earliest-requires
+earliest-requires c κs = search needs
+
+returns : tie.Need-returns
+returns c =
+    let a = c .before .before in
+    let s = a .before .before .before .before in
+    open-slot (s .args .self) (s .args .place) _ _ _ (s .pre .1) (a .open-to-all .ensures) (full s) (c .before .ready-set .ensures) (c .earliest .ensures)
+
+pub chosen-h-spec : {M : Type 1} → statement M
+chosen-h-spec =
+    tie.close (tie.spec open-to-all-requires ready-set-requires earliest-requires returns)

@@ -1,0 +1,63 @@
+-- `overruns` meets its contract: idle is no overrun, a job's is its own.
+use native.Mathlib.Omega.{arith}
+use mathlib.Core.Path.{subst}
+use Rattle.executive.specs.Sound.{Listed}
+use Rattle.executive.specs.declared.Slot.{Slot}
+use Rattle.executive.specs.Step.{overrun}
+use Rattle.executive.specs.StepLaws.{overran}
+use borrow.Author.Needs.{needs}
+use Rattle.executive.proofs.Run.overruns.Statement.{statement}
+use Rattle.executive.proofs.Run.overruns.Tie as tie
+
+-- what the `requires` says of the job
+listed : (c : tie.After-slot) → Listed (Slot.Job (c .slot .given .0 .0))
+listed c = subst Listed (c .slot .given .1) (c .before .before .pre)
+
+enum-known-slot : tie.Need-enum-known-slot
+enum-known-slot c = search needs
+
+enum-told : tie.Need-enum-told
+enum-told c = search needs
+
+returns : tie.Need-returns
+unfolding overrun
+returns c = rw (c .enum-told .given .1)
+
+index-requires : tie.Need-index-requires
+index-requires c κs = search needs
+
+mul-j : tie.Need-mul-j
+mul-j c = search needs
+
+element-copy-out-j : tie.Need-element-copy-out-j
+element-copy-out-j c = omega (arith, listed (c .before .before .before), c .before .index .ensures .0)
+
+mul-e : tie.Need-mul-e
+mul-e c = search needs
+
+element-copy-out-e : tie.Need-element-copy-out-e
+element-copy-out-e c = omega (arith, listed (c .before .before .before .before), c .before .before .index .ensures .0)
+
+past-lo-requires : tie.Need-past-lo-requires
+past-lo-requires c κs = search needs
+
+returns-2 : tie.Need-returns-2
+returns-2 c =
+    let i = c .before .before .before .before in
+    let s = i .before .before in
+    overran (s .before .before .args .t1) _ _ _ (s .slot .given .1) (i .index .ensures .0) _ (c .past-lo .ensures)
+
+pub overruns-spec : {M : Type 1} → statement M
+overruns-spec =
+    tie.close
+    (tie.spec
+    enum-known-slot
+    enum-told
+    returns
+    index-requires
+    mul-j
+    element-copy-out-j
+    mul-e
+    element-copy-out-e
+    past-lo-requires
+    returns-2)

@@ -1,0 +1,93 @@
+-- Laws of one step, for the loops over a run's jobs: entries that expire, the return test, work stored job by job.
+use Prim.Native.Nat.{ℕ, zero, suc, _+_, _-_, _≤_, _<_}
+use native.Mathlib.Nat.{not-suc-le-zero, le-of-suc-le-suc}
+use native.Mathlib.Numerals.{add-one}
+use native.Mathlib.Omega.{arith}
+use mathlib.Core.Bool.{Bool, true, false}
+use mathlib.Core.Path.{_≡_, refl, ap, sym, _∙_}
+use mathlib.Core.List.{List, [], _∷_, _++_}
+use lib.ListN.{length, take, drop, getD, set, replicate, drop-of-length-le}
+use lib.Seq.{take-suc, drop-cons, length-take-le, append-snoc, set-at}
+use Rattle.plan.specs.declared.Job.{Job}
+use Rattle.plan.specs.Plan.{blankJob}
+use Rattle.words.specs.Words.{if_then_else_, filled}
+use Rattle.words.specs.ListLaws.{taken-from}
+use Rattle.executive.specs.declared.Entry.{Entry}
+use Rattle.executive.specs.declared.Run.{Run}
+use Rattle.executive.specs.declared.Slot.{Slot}
+use Rattle.executive.specs.declared.Kind.{Kind}
+use Rattle.executive.specs.declared.Phase.{Phase}
+use Rattle.executive.specs.Run.{freshEntry}
+use Rattle.executive.specs.Step.{ranOn, reported, expiredEntry, expiredEntries, expired, pastLo, overrun, settled, everySettled, canReturn, phaseAfter}
+
+-- the same run with other entries
+abbrev pub withEntries : Run → List Entry → Run
+withEntries r es = record { plan = r .plan; t = r .t; phase = r .phase; hi = r .hi; lo = r .lo; job = es }
+
+-- one entry more has met its border
+expired-next : (t i : ℕ) (js : List Job) (es : List Entry) (j : Job) (e : Entry) → i < length js → i < length es → set (expiredEntries t (take i js) es) i (expiredEntry t (getD js i j) (getD (expiredEntries t (take i js) es) i e)) ≡ expiredEntries t (take (suc i) js) es
+unfolding expiredEntries
+expired-next t i [] es j e h k = absurd (not-suc-le-zero h)
+expired-next t i (x ∷ js) [] j e h k = absurd (not-suc-le-zero k)
+expired-next t zero (x ∷ js) (y ∷ es) j e h k = refl
+expired-next t (suc i) (x ∷ js) (y ∷ es) j e h k = ap (λ (l : List Entry). expiredEntry t x y ∷ l) (expired-next t i js es j e (le-of-suc-le-suc h) (le-of-suc-le-suc k))
+
+-- one turn over the entries, at the whole run
+pub expired-turn : (s next : Run) (i : ℕ) (j : Job) (e x : Entry) → i < length (s .plan .job) → i < length (s .job) → next ≡ withEntries s (expiredEntries (s .t) (take i (s .plan .job)) (s .job)) → x ≡ expiredEntry (s .t) (getD (s .plan .job) i j) (getD (next .job) i e) → withEntries next (set (next .job) i x) ≡ withEntries s (expiredEntries (s .t) (take (i + 1) (s .plan .job)) (s .job))
+expired-turn s next i j e x h k p q = rw (q, p, add-one i) (ap (withEntries s) (expired-next (s .t) i (s .plan .job) (s .job) j e h k))
+
+-- the last turn
+pub expired-end : (s next : Run) (i : ℕ) → i ≡ s .plan .jobs → next ≡ withEntries s (expiredEntries (s .t) (take i (s .plan .job)) (s .job)) → next ≡ expired s
+unfolding expired
+expired-end s next i h p = rw h at p
+
+module _ (js : List Job) (es : List Entry) (cs : List ℕ) (n i : ℕ) (j : Job) (e : Entry) (lj : n ≤ length js) (le : n ≤ length es) (lc : n ≤ length cs) (h : i < n) where
+  -- job i + 1 is settled: the answer from here is the answer from the next on
+  pub settled-on : settled (getD js i j) (getD es i e) (getD cs i 0) ≡ true → everySettled (drop (i + 1) (take n js)) (drop (i + 1) es) (drop (i + 1) cs) ≡ everySettled (drop i (take n js)) (drop i es) (drop i cs)
+  unfolding everySettled
+  settled-on p =
+      let a : i < length es = omega arith in
+      let b : i < length cs = omega arith in
+      rw (taken-from js n i j lj h, drop-cons es i e a, drop-cons cs i 0 b, p, add-one i)
+
+  -- it is not: that is the answer
+  pub settled-not : settled (getD js i j) (getD es i e) (getD cs i 0) ≡ false → false ≡ everySettled (drop i (take n js)) (drop i es) (drop i cs)
+  unfolding everySettled
+  settled-not p =
+      let a : i < length es = omega arith in
+      let b : i < length cs = omega arith in
+      rw (taken-from js n i j lj h, drop-cons es i e a, drop-cons cs i 0 b, p)
+
+-- none is left
+pub settled-end : (js : List Job) (es : List Entry) (cs : List ℕ) (n i : ℕ) → n ≤ length js → n ≤ i → true ≡ everySettled (drop i (take n js)) (drop i es) (drop i cs)
+unfolding everySettled
+settled-end js es cs n i le h =
+    let l : length (take n js) ≤ i = rw (length-take-le n js le) h in
+    rw (drop-of-length-le (take n js) l)
+
+-- an array filled from the front by a list, one store a turn
+pub filled-next : (n z d i : ℕ) (xs : List ℕ) → i < length xs → length xs ≤ n → set (filled n z (take i xs)) i (getD xs i d) ≡ filled n z (take (i + 1) xs)
+filled-next n z d i xs h l =
+    let e : length (take i xs) ≡ i = length-take-le i xs (omega arith) in
+    let e′ : length (take (suc i) xs) ≡ suc i = length-take-le (suc i) xs (omega arith) in
+    let r : n - i ≡ suc (n - suc i) = omega arith in
+    rw (add-one i, e, e′, r, set-at (take i xs) z (replicate (n - suc i) z) (getD xs i d) i e, take-suc xs i d h, mathlib.Core.List.append-assoc)
+
+module _ (r : Run) (slot : Slot) (k i : ℕ) (p : slot ≡ Slot.Job k) (q : i ≡ k - 1) where
+  -- a slot with a job, reported
+  pub ran : (kind : Kind) (e : Entry) → e ≡ ranOn kind (r .t + 1) (getD (r .plan .job) i blankJob) (getD (r .job) i freshEntry) → record { plan = r .plan; t = r .t + 1; phase = r .phase; hi = r .hi; lo = r .lo; job = set (r .job) i e } ≡ reported r slot kind
+  unfolding reported
+  ran kind e h = rw (p, h, q)
+
+  -- whether it overruns
+  pub overran : (b : Bool) → b ≡ pastLo (getD (r .plan .job) i blankJob) (getD (r .job) i freshEntry) → b ≡ overrun r slot
+  unfolding overrun
+  overran b h = rw (p, h, q)
+
+-- the phase after a step, from the test that the phase asks
+module _ (r : Run) (slot : Slot) (b : Bool) where
+  pub after-t : r .phase ≡ Phase.T → b ≡ overrun r slot → (if b then Phase.H else Phase.T) ≡ phaseAfter (r .phase) r slot
+  after-t p q = ap (λ (x : Bool). if x then Phase.H else Phase.T) q ∙ sym (ap (λ (h : Phase). phaseAfter h r slot) p)
+
+  pub after-h : r .phase ≡ Phase.H → b ≡ canReturn r → (if b then Phase.T else Phase.H) ≡ phaseAfter (r .phase) r slot
+  after-h p q = ap (λ (x : Bool). if x then Phase.T else Phase.H) q ∙ sym (ap (λ (h : Phase). phaseAfter h r slot) p)

@@ -1,0 +1,103 @@
+// Who gets slot t, in either phase. What a choice is refused for is in lib.rt.
+ghost use mathlib.Core.Path.{_≡_};
+ghost use mathlib.Core.Bool.{not, _&&_};
+ghost use Prim.Native.Nat.{_≤_};
+ghost use lib.IntN.{pos};
+ghost use lib.ListN.{getD};
+ghost use Rattle.words.specs.Words.{_≤?_, below0, above0};
+ghost use Rattle.intervals.specs.Intervals.{intervals, past};
+ghost use Rattle.executive.specs.Run.{live};
+ghost use Rattle.executive.specs.Choice.{chosenT, chosenH, chosen};
+ghost use Rattle.executive.specs.Sound.{Sound};
+use crate::Entry;
+use crate::Phase;
+use crate::Run;
+use crate::Slot;
+use crate::entries::is_live;
+use crate::ready::earliest;
+use crate::ready::index;
+use intervals::INTERVALS;
+
+// The table's job k has its slot when it is live.
+fn has_slot(k: u16, e: Entry) -> bool
+    ensures { λ r. ⌜ r ≡ ((1 ≤? k) && live e) ⌝ }
+{
+    if k < 1 {
+        return false;
+    }
+    is_live(e)
+}
+
+// The spare at a place of a row is above 0; beyond the row there is 0.
+fn is_above(row: [i32; INTERVALS], place: usize) -> bool
+    ensures { λ r. ⌜ r ≡ above0 (getD row place (pos 0)) ⌝ }
+{
+    if INTERVALS <= place {
+        return false;
+    }
+    let spare = row[place];
+    0 < spare
+}
+
+// It is below 0.
+fn is_below(row: [i32; INTERVALS], place: usize) -> bool
+    ensures { λ r. ⌜ r ≡ below0 (getD row place (pos 0)) ⌝ }
+{
+    if INTERVALS <= place {
+        return false;
+    }
+    let spare = row[place];
+    spare < 0
+}
+
+// With these rows' spares the slot is open to all ready jobs, not to the HI jobs only.
+fn open_to_all(hi: [i32; INTERVALS], lo: [i32; INTERVALS], place: usize) -> bool
+    ensures { λ r. ⌜ r ≡ (above0 (getD hi place (pos 0)) && not (below0 (getD lo place (pos 0)))) ⌝ }
+{
+    if !is_above(hi, place) {
+        return false;
+    }
+    !is_below(lo, place)
+}
+
+impl Run {
+    fn chosen_t(self) -> Slot
+        requires { ⌜ Sound self ⌝ }
+        ensures { λ r. ⌜ r ≡ chosenT self ⌝ }
+    {
+        let p = self.plan;
+        let t = plan::wide(self.t);
+        let k = p.table[t];
+        let i = index(k);
+        let e = self.job[i];
+        if has_slot(k, e) {
+            return Slot::Job(k);
+        }
+        let set = self.ready_set(false);
+        earliest(p, set)
+    }
+
+    // `place` is that of the current interval.
+    fn chosen_h(self, place: usize) -> Slot
+        requires { ⌜ Sound self × (place ≡ past (self .t) (intervals (self .plan))) ⌝ }
+        ensures { λ r. ⌜ r ≡ chosenH self ⌝ }
+    {
+        let p = self.plan;
+        let hi = self.hi;
+        let lo = self.lo;
+        let all = open_to_all(hi, lo, place);
+        let set = self.ready_set(!all);
+        earliest(p, set)
+    }
+
+    pub(crate) fn chosen(self, place: usize) -> Slot
+        requires { ⌜ Sound self × (place ≡ past (self .t) (intervals (self .plan))) ⌝ }
+        ensures { λ r. ⌜ r ≡ chosen self ⌝ }
+    {
+        let phase = self.phase;
+        match phase {
+            Phase::T => self.chosen_t(),
+            Phase::H => self.chosen_h(place),
+        }
+    }
+}
