@@ -1,8 +1,8 @@
 -- General laws that the theorems of this crate use: tests joined, lists joined member by member, answers in order. Nothing here is of the trade.
-use Prim.Native.Nat.{ℕ, zero, suc, _+_, _<_, suc-le-suc, zero-le}
+use Prim.Native.Nat.{ℕ, zero, suc, _+_, _≤_, _<_, suc-le-suc, zero-le}
 use native.Mathlib.Nat.{not-suc-le-zero, le-of-suc-le-suc}
 use native.Mathlib.Omega.{arith}
-use mathlib.Core.Path.{_≡_, refl, sym, _∙_}
+use mathlib.Core.Path.{_≡_, refl, sym, ap, _∙_}
 use mathlib.Core.Bool.{Bool, true, false, _&&_, false≢true, true≢false}
 use mathlib.Core.List.{List, [], _∷_, zipWith}
 use lib.ListN.{length, getD}
@@ -36,6 +36,13 @@ module _ {A B C : Type 0} (f : A → B → C) (a : A) (b : B) where
   getD-zip (x ∷ xs) [] i d h l = absurd (not-suc-le-zero l)
   getD-zip (x ∷ xs) (y ∷ ys) zero d h l = refl
   getD-zip (x ∷ xs) (y ∷ ys) (suc i) d h l = getD-zip xs ys i d (le-of-suc-le-suc h) (le-of-suc-le-suc l)
+
+-- it is as long as the shorter
+pub length-zip : {A B C : Type 0} (f : A → B → C) (xs : List A) (ys : List B) → length xs ≤ length ys → length (zipWith f xs ys) ≡ length xs
+unfolding zipWith
+length-zip f [] ys h = refl
+length-zip f (x ∷ xs) [] h = absurd (not-suc-le-zero h)
+length-zip f (x ∷ xs) (y ∷ ys) h = ap suc (length-zip f xs ys (le-of-suc-le-suc h))
 
 module _ {A B : Type 0} (f : A → B → Bool) (a : A) (b : B) where
   -- a test that holds for one pair of the joined list is of members

@@ -9,3 +9,4 @@ pub mod ChoiceLaws
 pub mod NextLaws
 pub mod StepLaws
 pub mod History
+pub mod Kept

@@ -1,0 +1,330 @@
+-- The run's invariant: what every run that comes from an accepted plan keeps from slot to slot, proved step by step from the acceptance promise.
+-- Jobs are counted here by their place, from 0, as in the acceptance promise.
+use Prim.Native.Nat.{ℕ, zero, suc, _+_, _-_, _≤_, _<_}
+use native.Mathlib.Nat.{not-suc-le-zero, le-of-suc-le-suc}
+use native.Mathlib.Decide.{ℕ-discrete}
+use native.Mathlib.Omega.{arith}
+use mathlib.Core.Path.{_≡_, refl, sym, ap, _∙_}
+use mathlib.Core.Logic.{_⊎_, inl, inr, ⊎-elim}
+use mathlib.Core.Bool.{Bool, true, false, not, _&&_, _||_, false≢true, true≢false}
+use mathlib.Core.List.{List, [], _∷_, map}
+use lib.IntN.{ℤ}
+use lib.ListN.{length, take, getD, getD-replicate}
+use lib.Seq.{getD-take, length-take-le}
+use borrow.Author.Tests.{leb-true, leb-false, not-true, eq-eqb, ne-eqb}
+use Rattle.plan.specs.declared.Job.{Job}
+use Rattle.plan.specs.declared.Plan.{Plan}
+use Rattle.words.specs.Words.{if_then_else_, _≤?_, _=?_, above0, countUp}
+use Rattle.windows.specs.Windows.{InTime, Feasible}
+use Rattle.windows.specs.WindowLaws.{met, in-time-mono}
+use Rattle.plan.specs.Limits.{maxJobs}
+use Rattle.plan.specs.CountLaws.{counts-length, counts-at}
+use Rattle.plan.specs.Plan.{jobsOf, jobNo, isHi, blankJob, tableAt, tableSlots, countsAt}
+use Rattle.intervals.specs.Spares.{row, current, hiLeft}
+use Rattle.acceptance_promise.specs.Promise.{jobAt, windowsOf, tab, InOrder, A2}
+use Rattle.acceptance_promise.specs.CountLaws.{tab-start}
+use Rattle.acceptance_promise.specs.OneSlot.{hiRemaining, OnTable, SlotTo, TableFirst, EarliestHi, NoHiReady}
+use Rattle.acceptance_promise.specs.OneSlotLaws.{stays-on-table, table-feasible, overrun-feasible, earliest-feasible, nobody-feasible, spare-feasible}
+use Rattle.executive.specs.declared.Entry.{Entry}
+use Rattle.executive.specs.declared.Phase.{Phase}
+use Rattle.executive.specs.declared.Phase.the-variants.{T, H}
+use Rattle.executive.specs.declared.Run.{Run}
+use Rattle.executive.specs.declared.Slot.{Slot}
+use Rattle.executive.specs.declared.Report.{Report}
+use Rattle.executive.specs.Run.{live, entryNo, freshEntry, freshHi, hiWork, currentHi, newRun}
+use Rattle.executive.specs.Choice.{chosen, earliest, ready, readyHi}
+use Rattle.executive.specs.Step.{pastLo, overrun, settled, everySettled, canReturn, phaseAfter, nextRun}
+use Rattle.promises.specs.Demands.{JobOf, jobRun}
+use Rattle.promises.specs.General.{both, not-both, getD-zip, length-zip}
+use Rattle.promises.specs.ChoiceLaws.{Ready, same-job, idle-is-no-job, in-phase-T, in-phase-H, EarliestReadyHi, earliest-ready-hi}
+use Rattle.promises.specs.NextLaws.{next-plan, next-t, next-phase, next-length, entryAfter, given-after, live-after, low-after, live-fewer}
+use Rattle.promises.specs.StepLaws.{Taken, Recorded, js-fit, es-fit, chosen-is-ready, own-slot, next-entry}
+
+-- the entry at place k: the slots that job has been given, and whether it is live
+abbrev pub entryAt : Run → ℕ → Entry
+entryAt r k = getD (r .job) k freshEntry
+
+abbrev pub givenAt : Run → ℕ → ℕ
+givenAt r k = entryAt r k .given
+
+abbrev pub liveAt : Run → ℕ → Bool
+liveAt r k = live (entryAt r k)
+
+-- S2, one half: while the current spare of a row is above 0, there is one slot to spare for the work of that row
+abbrev pub SpareAbove : Plan → Type 0
+SpareAbove p =
+    (t : ℕ) (ws : List ℕ) → t < p .slots → length ws ≡ p .jobs → ((k : ℕ) → k < p .jobs → jobAt p k .deadline ≤ t → getD ws k 0 ≡ 0)
+    → above0 (current p t (row p t ws)) ≡ true → InTime (windowsOf p) (t + 1) (λ k. getD ws k 0)
+
+-- I2 to I5 of every border
+pub record Kept (p : Plan) (r : Run) : Type 0 where
+  -- no job has a slot before its release
+  pub begun : (k : ℕ) → k < p .jobs → 0 < givenAt r k → jobAt p k .release < r .t
+  -- no window of the HI work left is overfull
+  pub room : Feasible (windowsOf p) (r .t) (hiRemaining p (givenAt r) (liveAt r))
+  -- in phase T every live job has been given its table slots, and every live HI job fewer than lo
+  pub table : r .phase ≡ T → OnTable p (r .t) (givenAt r) (liveAt r)
+  -- no LO job is live at its deadline
+  pub expiry : (k : ℕ) → k < p .jobs → isHi (jobAt p k) ≡ false → liveAt r k ≡ true → r .t < jobAt p k .deadline
+
+-- ---- places and numbers
+
+number-place : (k : ℕ) → suc k - 1 ≡ k
+number-place k = omega arith
+
+pub job-of-place : (p : Plan) (k : ℕ) → k < p .jobs → JobOf p (suc k)
+job-of-place p k l = (omega arith, l)
+
+-- ---- overruns and the return test
+
+phases-differ : H ≡ T → ⊥
+phases-differ e = let z : _≡_ {A = ℕ} 0 1 = cc in omega arith
+
+-- a live HI job that is not past its lo
+past-lo-no : (j : Job) (e : Entry) → pastLo j e ≡ false → live e ≡ true → isHi j ≡ true → e .given < j .lo
+unfolding pastLo
+past-lo-no j e h alive high = leb-false (j .lo) (e .given) (rw (alive, high) at h)
+
+-- an overrun is of a HI job
+past-lo-high : (j : Job) (e : Entry) → pastLo j e ≡ true → isHi j ≡ true
+unfolding pastLo
+past-lo-high j e h = both (live e) (isHi j) (both (live e && isHi j) (j .lo ≤? e .given) h .0) .1
+
+overrun-of : (s : Run) (slot : Slot) (k : ℕ) → slot ≡ Slot.Job (suc k) → overrun s slot ≡ pastLo (jobAt (s .plan) k) (entryAt s k)
+unfolding overrun
+overrun-of s slot k e = ap (overrun s) e ∙ (rw (number-place k))
+
+overrun-job : (s : Run) (slot : Slot) → overrun s slot ≡ true → (m : ℕ) × (slot ≡ Slot.Job m) × (isHi (jobNo (s .plan) m) ≡ true)
+unfolding overrun
+overrun-job s Slot.Idle h = absurd (false≢true h)
+overrun-job s (Slot.Job m) h = (m, refl, past-lo-high (jobNo (s .plan) m) (entryNo s m) h)
+
+-- the return test says it job by job
+every-settled : (js : List Job) (es : List Entry) (cs : List ℕ) → everySettled js es cs ≡ true
+    → (i : ℕ) → i < length js → i < length es → i < length cs → settled (getD js i blankJob) (getD es i freshEntry) (getD cs i 0) ≡ true
+unfolding everySettled
+every-settled [] es cs h i a b c = absurd (not-suc-le-zero a)
+every-settled (j ∷ js) [] cs h i a b c = absurd (not-suc-le-zero b)
+every-settled (j ∷ js) (e ∷ es) [] h i a b c = absurd (not-suc-le-zero c)
+every-settled (j ∷ js) (e ∷ es) (x ∷ cs) h zero a b c = both (settled j e x) (everySettled js es cs) h .0
+every-settled (j ∷ js) (e ∷ es) (x ∷ cs) h (suc i) a b c =
+    every-settled js es cs (both (settled j e x) (everySettled js es cs) h .1) i (le-of-suc-le-suc a) (le-of-suc-le-suc b) (le-of-suc-le-suc c)
+
+settled-says : (j : Job) (e : Entry) (count : ℕ) → settled j e count ≡ true → live e ≡ true → (count ≤ e .given) × (isHi j ≡ true → e .given < j .lo)
+unfolding settled
+settled-says j e count h alive =
+    let w = both (count ≤? e .given) (not (pastLo j e)) (rw alive at h) in
+    (leb-true count (e .given) (w .0), λ high. past-lo-no j e (not-true (pastLo j e) (w .1)) alive high)
+
+-- a run that can return is on the table
+return-on-table : (s : Run) → s .plan .jobs ≤ length (s .plan .job) → s .plan .jobs ≤ length (s .job) → s .plan .jobs ≤ maxJobs
+    → canReturn s ≡ true → OnTable (s .plan) (s .t) (givenAt s) (liveAt s)
+unfolding canReturn
+return-on-table s a b c h = record { ahead = λ k l alive. says k l alive .0; early = λ k l alive high. says k l alive .1 high }
+  where
+    says : (k : ℕ) → k < s .plan .jobs → liveAt s k ≡ true → (tab (s .plan) k (s .t) ≤ givenAt s k) × (isHi (jobAt (s .plan) k) ≡ true → givenAt s k < jobAt (s .plan) k .lo)
+    says k l alive =
+        let x : k < length (jobsOf (s .plan)) = rw (length-take-le (s .plan .jobs) (s .plan .job) a) l in
+        let y : k < length (countsAt (s .plan) (s .t)) = rw (counts-length (s .plan) (s .t)) (omega arith) in
+        let e : 1 + k ≡ suc k = omega arith in
+        let q = every-settled (jobsOf (s .plan)) (s .job) (countsAt (s .plan) (s .t)) h k x (omega arith) y in
+        settled-says (jobAt (s .plan) k) (entryAt s k) (tab (s .plan) k (s .t)) (rw (getD-take (s .plan .jobs) (s .plan .job) k blankJob l, counts-at (s .plan) (s .t) k (omega arith), e) at q) alive
+
+-- ---- one step, by places
+
+module _ (r : Run) (w : Recorded r) (report : Report) (ok : Taken r report) where
+  abbrev next : Run
+  next = nextRun r (chosen r) (report .kind)
+
+  abbrev who : ℕ
+  who = jobRun (chosen r)
+
+  next-at : (k : ℕ) → k < r .plan .jobs → entryAt next k ≡ entryAfter (r .t + 1) (jobAt (r .plan) k) (who =? suc k) (report .kind) (entryAt r k)
+  next-at k l = rw (number-place k) at (next-entry r w report ok (suc k) (job-of-place (r .plan) k l))
+
+  given-next : (k : ℕ) → k < r .plan .jobs → givenAt next k ≡ givenAt r k + (if who =? suc k then 1 else 0)
+  given-next k l = ap (λ (e : Entry). e .given) (next-at k l) ∙ given-after (r .t + 1) (jobAt (r .plan) k) (who =? suc k) (report .kind) (entryAt r k)
+
+  alive-next : (k : ℕ) → k < r .plan .jobs → liveAt next k ≡ true → live (entryAfter (r .t + 1) (jobAt (r .plan) k) (who =? suc k) (report .kind) (entryAt r k)) ≡ true
+  alive-next k l h = sym (ap (λ (e : Entry). live e) (next-at k l)) ∙ h
+
+  -- the slot went to what was chosen
+  slot-to : SlotTo (r .plan) who (givenAt r) (givenAt next) (liveAt r) (liveAt next)
+  slot-to = record {
+    more = λ k l e. given-next k l ∙ ap (λ (b : Bool). givenAt r k + (if b then 1 else 0)) (eq-eqb who (suc k) e);
+    others = λ k l e. given-next k l ∙ ap (λ (b : Bool). givenAt r k + (if b then 1 else 0)) (ne-eqb who (suc k) e) ∙ omega arith;
+    fewer = λ k l h. live-after (r .t + 1) (jobAt (r .plan) k) (who =? suc k) (report .kind) (entryAt r k) (alive-next k l h);
+  }
+
+  -- what is chosen is a job of the plan that is live, released, and has fewer slots than hi
+  chosen-at : (k : ℕ) → who ≡ suc k → (k < r .plan .jobs) × (liveAt r k ≡ true) × (jobAt (r .plan) k .release ≤ r .t)
+  chosen-at k e =
+      let c = chosen-is-ready r w (ok .more) (suc k) (own-slot (chosen r) (suc k) (omega arith) (eq-eqb who (suc k) e)) in
+      (c .0 .1, rw (number-place k) at (c .1 .0), rw (number-place k) at (c .1 .1))
+
+  fewer-than-hi : (k : ℕ) → k < r .plan .jobs → liveAt r k ≡ true → givenAt r k < jobAt (r .plan) k .hi
+  fewer-than-hi k l h =
+      let rule = rw (number-place k) at (w .holds (suc k) (job-of-place (r .plan) k l)) in
+      live-fewer (r .t) (jobAt (r .plan) k .hi) (givenAt r k) (entryAt r k .standing) rule h
+
+  next-fits : next .plan .jobs ≤ length (next .job)
+  next-fits = rw (next-plan r (chosen r) (report .kind), next-length r (chosen r) (report .kind)) (es-fit r w)
+
+  -- I2 after the slot
+  begun-next : ((k : ℕ) → k < r .plan .jobs → 0 < givenAt r k → jobAt (r .plan) k .release < r .t)
+      → (k : ℕ) → k < r .plan .jobs → 0 < givenAt next k → jobAt (r .plan) k .release < r .t + 1
+  begun-next begun k l some = go (ℕ-discrete who (suc k))
+    where
+      go : Dec (who ≡ suc k) → jobAt (r .plan) k .release < r .t + 1
+      go (yes e) = let c = chosen-at k e .2 in omega arith
+      go (no e) = let b = begun k l (rw (slot-to .others k l e) at some) in omega arith
+
+  -- I5 after the slot
+  expiry-next : (k : ℕ) → k < r .plan .jobs → isHi (jobAt (r .plan) k) ≡ false → liveAt next k ≡ true → r .t + 1 < jobAt (r .plan) k .deadline
+  expiry-next k l low h = low-after (r .t + 1) (jobAt (r .plan) k) (who =? suc k) (report .kind) (entryAt r k) (alive-next k l h) low
+
+  -- ---- phase T
+
+  table-first : r .phase ≡ T → TableFirst (r .plan) (r .t) who (liveAt r)
+  table-first phase k l e alive =
+      ⊎-elim
+      (λ c. ap jobRun (c .2) ∙ e)
+      (λ c. let q : tableAt (r .plan) (r .t) - 1 ≡ k = omega arith in absurd (c .0 (omega arith) (rw q alive)))
+      (in-phase-T r phase)
+
+  -- no overrun: who had the slot is not past its lo
+  no-overrun : overrun next (chosen r) ≡ false → (k : ℕ) → k < r .plan .jobs → who ≡ suc k → liveAt next k ≡ true → isHi (jobAt (r .plan) k) ≡ true → givenAt next k < jobAt (r .plan) k .lo
+  no-overrun h k l e alive high =
+      let q = sym (overrun-of next (chosen r) k (own-slot (chosen r) (suc k) (omega arith) (eq-eqb who (suc k) e))) ∙ h in
+      past-lo-no (jobAt (r .plan) k) (entryAt next k) (rw (next-plan r (chosen r) (report .kind)) at q) alive high
+
+  -- an overrun: a HI job had the slot
+  has-overrun : overrun next (chosen r) ≡ true → (k : ℕ) × (who ≡ suc k) × (isHi (jobAt (r .plan) k) ≡ true)
+  has-overrun h =
+      let o = overrun-job next (chosen r) h in
+      let one = chosen-is-ready r w (ok .more) (o .0) (o .1) .0 .0 in
+      let e : o .0 ≡ suc (o .0 - 1) = omega arith in
+      (o .0 - 1, ap jobRun (o .1) ∙ e, same (o .0) (o .2))
+    where
+      same : (m : ℕ) → isHi (jobNo (next .plan) m) ≡ true → isHi (jobNo (r .plan) m) ≡ true
+      same m q = rw (next-plan r (chosen r) (report .kind)) at q
+
+  -- I3 and I4 after the slot
+  abbrev Goes : Type 0
+  Goes = Feasible (windowsOf (r .plan)) (r .t + 1) (hiRemaining (r .plan) (givenAt next) (liveAt next)) × (next .phase ≡ T → OnTable (r .plan) (r .t + 1) (givenAt next) (liveAt next))
+
+  goes-T : InOrder (r .plan) → A2 (r .plan) → r .phase ≡ T → OnTable (r .plan) (r .t) (givenAt r) (liveAt r) → Goes
+  goes-T order a2 phase on = go (overrun next (chosen r)) refl
+    where
+      after : (b : Bool) → overrun next (chosen r) ≡ b → next .phase ≡ (if b then H else T)
+      after b e = next-phase r (chosen r) (report .kind) ∙ ap (λ (x : Phase). phaseAfter x next (chosen r)) phase ∙ ap (λ (b : Bool). if b then H else T) e
+
+      go : (b : Bool) → overrun next (chosen r) ≡ b → Goes
+      go false e =
+          let on′ = stays-on-table (r .plan) order (r .t) who (givenAt r) (givenAt next) (liveAt r) (liveAt next) on (table-first phase) slot-to (no-overrun e) in
+          (table-feasible (r .plan) order a2 (r .t + 1) (givenAt next) (liveAt next) on′, λ _. on′)
+      go true e =
+          let o = has-overrun e in
+          let c = chosen-at (o .0) (o .1) in (
+            overrun-feasible (r .plan) order a2 (r .t) (o .0) (givenAt r) (givenAt next) (liveAt r) (liveAt next) on (rw (o .1) at (table-first phase)) (rw (o .1) at slot-to) (c .0) (o .2) (c .1),
+            λ t. absurd (phases-differ (sym (after true e) ∙ t)),
+          )
+
+  -- ---- phase H
+
+  -- the work of the HI row is the HI work left
+  work-at : (k : ℕ) → k < r .plan .jobs → getD (hiWork r) k 0 ≡ hiRemaining (r .plan) (givenAt r) (liveAt r) k
+  unfolding hiWork hiRemaining
+  work-at k l =
+      let x : k < length (jobsOf (r .plan)) = rw (length-take-le (r .plan .jobs) (r .plan .job) (js-fit r w)) l in
+      let fit = es-fit r w in
+      rw (getD-zip (λ j e. hiLeft j (live e) (e .given)) blankJob freshEntry (jobsOf (r .plan)) (r .job) k 0 x (omega arith), getD-take (r .plan .jobs) (r .plan .job) k blankJob l)
+
+  work-length : length (hiWork r) ≡ r .plan .jobs
+  unfolding hiWork
+  work-length =
+      let x = length-take-le (r .plan .jobs) (r .plan .job) (js-fit r w) in
+      length-zip (λ j e. hiLeft j (live e) (e .given)) (jobsOf (r .plan)) (r .job) (rw x (es-fit r w)) ∙ x
+
+  -- the current HI spare is above 0: one slot to spare
+  slot-to-spare : SpareAbove (r .plan) → Feasible (windowsOf (r .plan)) (r .t) (hiRemaining (r .plan) (givenAt r) (liveAt r))
+      → above0 (currentHi r) ≡ true → InTime (windowsOf (r .plan)) (r .t + 1) (hiRemaining (r .plan) (givenAt r) (liveAt r))
+  unfolding freshHi
+  slot-to-spare s2 now above =
+      let fresh : currentHi r ≡ current (r .plan) (r .t) (row (r .plan) (r .t) (hiWork r)) = ap (λ (zs : List ℤ). current (r .plan) (r .t) zs) (w .hi) in
+      in-time-mono (windowsOf (r .plan)) (r .t + 1) (λ k. getD (hiWork r) k 0) (hiRemaining (r .plan) (givenAt r) (liveAt r)) (λ k l. let e = work-at k l in omega arith)
+      (s2 (r .t) (hiWork r) (ok .more) work-length (λ k l d. work-at k l ∙ met (windowsOf (r .plan)) (r .t) (hiRemaining (r .plan) (givenAt r) (liveAt r)) (now .0) k l d) (rw fresh at above))
+
+  goes-H : InOrder (r .plan) → SpareAbove (r .plan) → r .phase ≡ H → Feasible (windowsOf (r .plan)) (r .t) (hiRemaining (r .plan) (givenAt r) (liveAt r)) → Goes
+  goes-H order s2 phase now = (⊎-elim spared hurried (in-phase-H r phase), returned)
+    where
+      Room : Type 0
+      Room = Feasible (windowsOf (r .plan)) (r .t + 1) (hiRemaining (r .plan) (givenAt next) (liveAt next))
+
+      spared : (above0 (currentHi r) ≡ true) × (chosen r ≡ earliest (r .plan) (ready r)) → Room
+      spared c = spare-feasible (r .plan) (r .t) (givenAt r) (givenAt next) (liveAt r) (liveAt next) now who (slot-to-spare s2 now (c .0)) slot-to
+
+      none-ready : ((k : ℕ) → JobOf (r .plan) k → isHi (jobNo (r .plan) k) ≡ true → Ready r k → ⊥) → NoHiReady (r .plan) (r .t) (liveAt r)
+      none-ready none k l high alive released =
+          none (suc k) (job-of-place (r .plan) k l) (rw (number-place k) high) (rw (number-place k) alive, rw (number-place k) released)
+
+      hurried : chosen r ≡ earliest (r .plan) (readyHi r) → Room
+      hurried e =
+          ⊎-elim
+          (λ c. nobody-feasible (r .plan) (r .t) (givenAt r) (givenAt next) (liveAt r) (liveAt next) now who (none-ready (c .1)) slot-to)
+          (λ c. let one = c .2 .0 in
+          let m : c .0 ≡ suc (c .0 - 1) = omega arith in
+          first (c .0 - 1) (ap jobRun (e ∙ c .1) ∙ m) (c .3)
+          (λ k l high alive released. rw (number-place k) at (c .5 (suc k) (job-of-place (r .plan) k l) (rw (number-place k) high) (rw (number-place k) alive, rw (number-place k) released))))
+          (earliest-ready-hi r (js-fit r w) (es-fit r w))
+        where
+          first : (j : ℕ) → who ≡ suc j → isHi (jobAt (r .plan) j) ≡ true
+              → ((k : ℕ) → k < r .plan .jobs → isHi (jobAt (r .plan) k) ≡ true → liveAt r k ≡ true → jobAt (r .plan) k .release ≤ r .t → jobAt (r .plan) j .deadline ≤ jobAt (r .plan) k .deadline)
+              → Room
+          first j q high before =
+              let c = chosen-at j q in
+              earliest-feasible (r .plan) (r .t) (givenAt r) (givenAt next) (liveAt r) (liveAt next) now j
+              (record { there = c .0; high = high; alive = c .1; first = before }) (fewer-than-hi j (c .0) (c .1)) (rw q at slot-to)
+
+      after : (b : Bool) → canReturn next ≡ b → next .phase ≡ (if b then T else H)
+      after b e = next-phase r (chosen r) (report .kind) ∙ ap (λ (x : Phase). phaseAfter x next (chosen r)) phase ∙ ap (λ (b : Bool). if b then T else H) e
+
+      on-return : (b : Bool) → canReturn next ≡ b → next .phase ≡ T → OnTable (r .plan) (r .t + 1) (givenAt next) (liveAt next)
+      on-return true e t =
+          rw (next-plan r (chosen r) (report .kind), next-t r (chosen r) (report .kind)) at
+          (return-on-table next (rw (next-plan r (chosen r) (report .kind)) (js-fit r w)) next-fits (rw (next-plan r (chosen r) (report .kind)) (order .jobs .1)) e)
+      on-return false e t = absurd (phases-differ (sym (after false e) ∙ t))
+
+      returned : next .phase ≡ T → OnTable (r .plan) (r .t + 1) (givenAt next) (liveAt next)
+      returned = on-return (canReturn next) refl
+
+  -- the invariant after the slot
+  pub kept-next : InOrder (r .plan) → A2 (r .plan) → SpareAbove (r .plan) → Kept (r .plan) r → Kept (r .plan) next
+  kept-next order a2 s2 kept =
+      let goes = go (r .phase) refl in
+      let t = next-t r (chosen r) (report .kind) in
+      record { begun = rw t (begun-next (kept .begun)); room = rw t (goes .0); table = rw t (goes .1); expiry = rw t expiry-next }
+    where
+      go : (x : Phase) → r .phase ≡ x → Goes
+      go T e = goes-T order a2 e (kept .table e)
+      go H e = goes-H order s2 e (kept .room)
+
+-- ---- the start
+
+module _ (p : Plan) (order : InOrder p) (a2 : A2 p) where
+  fresh : (k : ℕ) → k < p .jobs → entryAt (newRun p) k ≡ freshEntry
+  fresh k l = let m = order .jobs .1 in getD-replicate maxJobs k freshEntry freshEntry (omega arith)
+
+  new-on-table : OnTable p 0 (givenAt (newRun p)) (liveAt (newRun p))
+  new-on-table = record {
+    ahead = λ k l a. omega (arith, tab-start p k);
+    early = λ k l a h. rw (fresh k l) (order .some k l);
+  }
+
+  pub kept-start : Kept p (newRun p)
+  kept-start = record {
+    begun = λ k l h. absurd (let z : _≡_ {A = ℕ} (givenAt (newRun p) k) 0 = rw (fresh k l) in omega arith);
+    room = table-feasible p order a2 0 (givenAt (newRun p)) (liveAt (newRun p)) new-on-table;
+    table = λ _. new-on-table;
+    expiry = λ k l low h. let a = order .window k l in omega arith;
+  }
