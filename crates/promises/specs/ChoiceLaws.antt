@@ -12,6 +12,8 @@ use Rattle.plan.specs.declared.Job.{Job}
 use Rattle.plan.specs.declared.Plan.{Plan}
 use Rattle.words.specs.Words.{if_then_else_, _≤?_, _<?_, _=?_, below0, above0}
 use Rattle.plan.specs.Plan.{jobsOf, jobNo, isHi, blankJob, tableAt}
+use Rattle.acceptance_promise.specs.Promise.{InOrder}
+use Rattle.acceptance_promise.specs.RefusalLaws.{never, both-true}
 use Rattle.executive.specs.declared.Entry.{Entry}
 use Rattle.executive.specs.declared.Phase.{Phase}
 use Rattle.executive.specs.declared.Phase.the-variants.{T, H}
@@ -20,8 +22,7 @@ use Rattle.executive.specs.declared.Slot.{Slot}
 use Rattle.executive.specs.Run.{live, entryNo, freshEntry, currentHi, currentLo}
 use Rattle.executive.specs.Choice.{isReady, ready, readyHi, goesBefore, better, earliestFrom, earliest, chosenT, chosenH, chosen}
 use Rattle.promises.specs.Demands.{JobOf}
-use Rattle.promises.specs.InOrder.{InOrder}
-use Rattle.promises.specs.General.{both, joined, not-both, getD-zip, zip-member}
+use Rattle.promises.specs.General.{joined, getD-zip, zip-member}
 
 -- ---- earliest deadline
 
@@ -196,7 +197,7 @@ EarliestReadyHi r slot =
 module _ (r : Run) where
   ready-numbers : (k : ℕ) → isReady (r .t) (jobNo (r .plan) k) (entryNo r k) ≡ true → Ready r k
   ready-numbers k h =
-      let w = both (live (entryNo r k)) (jobNo (r .plan) k .release ≤? r .t) h in
+      let w = both-true (live (entryNo r k)) (jobNo (r .plan) k .release ≤? r .t) h in
       (w .0, leb-true (jobNo (r .plan) k .release) (r .t) (w .1))
 
   numbers-ready : (k : ℕ) → Ready r k → isReady (r .t) (jobNo (r .plan) k) (entryNo r k) ≡ true
@@ -213,8 +214,8 @@ module _ (r : Run) where
           → ((1 ≤ tableAt (r .plan) (r .t)) × (live (entryNo r (tableAt (r .plan) (r .t))) ≡ true) × (chosenT r ≡ Slot.Job (tableAt (r .plan) (r .t))))
           ⊎ ((1 ≤ tableAt (r .plan) (r .t) → live (entryNo r (tableAt (r .plan) (r .t))) ≡ true → ⊥) × (chosenT r ≡ earliest (r .plan) (ready r)))
       go true e true f = inl (leb-true 1 (tableAt (r .plan) (r .t)) e, f, rw (e, f))
-      go true e false f = inr (λ _ h. not-both (live (entryNo r (tableAt (r .plan) (r .t)))) h f, rw (e, f))
-      go false e b f = inr (λ h _. not-both (1 ≤? tableAt (r .plan) (r .t)) (le-leb 1 (tableAt (r .plan) (r .t)) h) e, rw e)
+      go true e false f = inr (λ _ h. never h f, rw (e, f))
+      go false e b f = inr (λ h _. never (le-leb 1 (tableAt (r .plan) (r .t)) h) e, rw e)
 
   -- phase H: one slot to spare and as of all ready jobs, or as of the ready HI jobs
   pub in-phase-H : r .phase ≡ H
@@ -243,7 +244,7 @@ module _ (r : Run) (js-fit : r .plan .jobs ≤ length (r .plan .job)) (es-fit : 
   earliest-ready-hi =
       ⊎-elim
       (λ w. inl (w .0, λ k l hi h. w .1 k l (passes k hi h)))
-      (λ w. let q = both (isReady (r .t) (jobNo (r .plan) (w .0)) (entryNo r (w .0))) (isHi (jobNo (r .plan) (w .0))) (w .3) in
+      (λ w. let q = both-true (isReady (r .t) (jobNo (r .plan) (w .0)) (entryNo r (w .0))) (isHi (jobNo (r .plan) (w .0))) (w .3) in
       inr (w .0, w .1, w .2, q .1, ready-numbers r (w .0) (q .0), λ k l hi h. w .4 k l (passes k hi h)))
       (earliest-of (r .plan) (r .job) js-fit es-fit (λ j e. isReady (r .t) j e && isHi j))
     where
@@ -268,8 +269,10 @@ module _ (r : Run) (js-fit : r .plan .jobs ≤ length (r .plan .job)) (es-fit : 
         go T phase =
             ⊎-elim
             (λ w. let q : tableAt (r .plan) (r .t) ≡ m = same-job (tableAt (r .plan) (r .t)) m (sym (w .2) ∙ e) in
-            let n = ok .names (r .t) more (w .0) in
-            rw (← q) ((w .0, n .0), (w .1, n .1)))
+            let one = w .0 in
+            let n = ok .names (r .t) more (tableAt (r .plan) (r .t) - 1) (omega arith) in
+            let few = n .0 in
+            rw (← q) ((one, omega arith), (w .1, n .1)))
             (λ w. of-ready (earliest (r .plan) (ready r)) earliest-ready m (sym (w .1) ∙ e))
             (in-phase-T r phase)
         go H phase =

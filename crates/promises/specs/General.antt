@@ -1,4 +1,4 @@
--- General laws that the theorems of this crate use: tests joined, lists joined member by member, answers in order. Nothing here is of the trade.
+-- General laws that the theorems of this crate use: tests and lists joined member by member. Nothing here is of the trade.
 use Prim.Native.Nat.{ℕ, zero, suc, _+_, _≤_, _<_, suc-le-suc, zero-le}
 use native.Mathlib.Nat.{not-suc-le-zero, le-of-suc-le-suc}
 use native.Mathlib.Omega.{arith}
@@ -9,22 +9,14 @@ use lib.ListN.{length, getD}
 use Rattle.words.specs.Words.{every}
 use Rattle.answers.specs.declared.Answer.{Answer}
 use Rattle.answers.specs.declared.Answer.the-variants.{Accepted}
+use Rattle.acceptance_promise.specs.RefusalLaws.{both-true}
 use Rattle.answers.specs.Answer.{accepted, _unless_, _andThen_, firstRefusal}
 
 -- ---- tests
 
--- both parts of a joined test hold
-pub both : (a b : Bool) → (a && b) ≡ true → (a ≡ true) × (b ≡ true)
-both true b h = (refl, h)
-both false b h = absurd (false≢true h)
-
--- and the other way
+-- both of two tests
 pub joined : (a b : Bool) → a ≡ true → b ≡ true → (a && b) ≡ true
 joined a b p q = rw (p, q)
-
--- a test has one outcome
-pub not-both : (b : Bool) → b ≡ true → b ≡ false → ⊥
-not-both b p q = true≢false (sym p ∙ q)
 
 -- ---- lists
 
@@ -58,8 +50,8 @@ module _ {A B : Type 0} (f : A → B → Bool) (a : A) (b : B) where
   unfolding zipWith every
   every-zip [] ys e i h l = absurd (not-suc-le-zero h)
   every-zip (x ∷ xs) [] e i h l = absurd (not-suc-le-zero l)
-  every-zip (x ∷ xs) (y ∷ ys) e zero h l = both (f x y) (every (zipWith f xs ys)) e .0
-  every-zip (x ∷ xs) (y ∷ ys) e (suc i) h l = every-zip xs ys (both (f x y) (every (zipWith f xs ys)) e .1) i (le-of-suc-le-suc h) (le-of-suc-le-suc l)
+  every-zip (x ∷ xs) (y ∷ ys) e zero h l = both-true (f x y) (every (zipWith f xs ys)) e .0
+  every-zip (x ∷ xs) (y ∷ ys) e (suc i) h l = every-zip xs ys (both-true (f x y) (every (zipWith f xs ys)) e .1) i (le-of-suc-le-suc h) (le-of-suc-le-suc l)
 
   -- and the other way
   pub zip-every : (xs : List A) (ys : List B) → ((i : ℕ) → i < length xs → i < length ys → f (getD xs i a) (getD ys i b) ≡ true) → every (zipWith f xs ys) ≡ true
@@ -75,27 +67,3 @@ module _ {A B : Type 0} (f : A → B → Bool) (a : A) (b : B) where
 pub is-accepted : (a : Answer) → a ≡ Accepted → accepted a ≡ true
 unfolding accepted
 is-accepted a e = rw e
-
--- an answer after another is accepted where both are
-pub both-accepted : (a b : Answer) → accepted (a andThen b) ≡ true → (accepted a ≡ true) × (accepted b ≡ true)
-both-accepted a b = go (accepted a) refl
-  where
-    go : (x : Bool) → accepted a ≡ x → accepted (a andThen b) ≡ true → (accepted a ≡ true) × (accepted b ≡ true)
-    go true e h = (e, rw e at h)
-    go false e h = let g : accepted a ≡ true = rw e at h in absurd (not-both (accepted a) g e)
-
--- a rule whose refusal was not given holds
-pub unless-holds : (refusal : Answer) (b : Bool) → accepted refusal ≡ false → accepted (refusal unless b) ≡ true → b ≡ true
-unless-holds refusal true e h = refl
-unless-holds refusal false e h = absurd (not-both (accepted refusal) h e)
-
--- no refusal along a list: each member is accepted
-pub none-refused : {A : Type 0} (judge : ℕ → A → Answer) (d : A) (k : ℕ) (xs : List A) → accepted (firstRefusal judge k xs) ≡ true → (i : ℕ) → i < length xs → accepted (judge (k + i) (getD xs i d)) ≡ true
-unfolding firstRefusal
-none-refused judge d k [] e i l = absurd (not-suc-le-zero l)
-none-refused judge d k (x ∷ xs) e zero l =
-    let z : k + 0 ≡ k = omega arith in
-    rw z (both-accepted (judge k x) (firstRefusal judge (suc k) xs) e .0)
-none-refused judge d k (x ∷ xs) e (suc i) l =
-    let z : k + suc i ≡ suc k + i = omega arith in
-    rw z (none-refused judge d (suc k) xs (both-accepted (judge k x) (firstRefusal judge (suc k) xs) e .1) i (le-of-suc-le-suc l))

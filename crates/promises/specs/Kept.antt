@@ -2,7 +2,7 @@
 -- Jobs are counted here by their place, from 0, as in the acceptance promise.
 use Prim.Native.Nat.{ℕ, zero, suc, _+_, _-_, _≤_, _<_}
 use native.Mathlib.Nat.{not-suc-le-zero, le-of-suc-le-suc}
-use native.Mathlib.Decide.{ℕ-discrete}
+use native.Mathlib.Decide.{decLe, ℕ-discrete}
 use native.Mathlib.Omega.{arith}
 use mathlib.Core.Path.{_≡_, refl, sym, ap, _∙_}
 use mathlib.Core.Logic.{_⊎_, inl, inr, ⊎-elim}
@@ -23,8 +23,9 @@ use Rattle.plan.specs.Plan.{jobsOf, jobNo, isHi, blankJob, tableAt, tableSlots,
 use Rattle.intervals.specs.Spares.{row, current, hiLeft}
 use Rattle.acceptance_promise.specs.Promise.{jobAt, windowsOf, tab, InOrder, A2}
 use Rattle.acceptance_promise.specs.CountLaws.{tab-start}
+use Rattle.acceptance_promise.specs.RefusalLaws.{both-true}
 use Rattle.acceptance_promise.specs.OneSlot.{hiRemaining, OnTable, SlotTo, TableFirst, EarliestHi, NoHiReady}
-use Rattle.acceptance_promise.specs.OneSlotLaws.{stays-on-table, table-feasible, overrun-feasible, earliest-feasible, nobody-feasible, spare-feasible}
+use Rattle.acceptance_promise.specs.OneSlotLaws.{high-met, stays-on-table, table-feasible, overrun-feasible, earliest-feasible, nobody-feasible, spare-feasible}
 use Rattle.executive.specs.declared.Entry.{Entry}
 use Rattle.executive.specs.declared.Phase.{Phase}
 use Rattle.executive.specs.declared.Phase.the-variants.{T, H}
@@ -32,10 +33,11 @@ use Rattle.executive.specs.declared.Run.{Run}
 use Rattle.executive.specs.declared.Slot.{Slot}
 use Rattle.executive.specs.declared.Report.{Report}
 use Rattle.executive.specs.Run.{live, entryNo, freshEntry, freshHi, hiWork, currentHi, newRun}
+use Rattle.executive.specs.Coherent.{standingHolds}
 use Rattle.executive.specs.Choice.{chosen, earliest, ready, readyHi}
 use Rattle.executive.specs.Step.{pastLo, overrun, settled, everySettled, canReturn, phaseAfter, nextRun}
 use Rattle.promises.specs.Demands.{JobOf, jobRun}
-use Rattle.promises.specs.General.{both, not-both, getD-zip, length-zip}
+use Rattle.promises.specs.General.{getD-zip, length-zip}
 use Rattle.promises.specs.ChoiceLaws.{Ready, same-job, idle-is-no-job, in-phase-T, in-phase-H, EarliestReadyHi, earliest-ready-hi}
 use Rattle.promises.specs.NextLaws.{next-plan, next-t, next-phase, next-length, entryAfter, given-after, live-after, low-after, live-fewer}
 use Rattle.promises.specs.StepLaws.{Taken, Recorded, js-fit, es-fit, chosen-is-ready, own-slot, next-entry}
@@ -88,7 +90,7 @@ past-lo-no j e h alive high = leb-false (j .lo) (e .given) (rw (alive, high) at 
 -- an overrun is of a HI job
 past-lo-high : (j : Job) (e : Entry) → pastLo j e ≡ true → isHi j ≡ true
 unfolding pastLo
-past-lo-high j e h = both (live e) (isHi j) (both (live e && isHi j) (j .lo ≤? e .given) h .0) .1
+past-lo-high j e h = both-true (live e) (isHi j) (both-true (live e && isHi j) (j .lo ≤? e .given) h .0) .1
 
 overrun-of : (s : Run) (slot : Slot) (k : ℕ) → slot ≡ Slot.Job (suc k) → overrun s slot ≡ pastLo (jobAt (s .plan) k) (entryAt s k)
 unfolding overrun
@@ -106,14 +108,14 @@ unfolding everySettled
 every-settled [] es cs h i a b c = absurd (not-suc-le-zero a)
 every-settled (j ∷ js) [] cs h i a b c = absurd (not-suc-le-zero b)
 every-settled (j ∷ js) (e ∷ es) [] h i a b c = absurd (not-suc-le-zero c)
-every-settled (j ∷ js) (e ∷ es) (x ∷ cs) h zero a b c = both (settled j e x) (everySettled js es cs) h .0
+every-settled (j ∷ js) (e ∷ es) (x ∷ cs) h zero a b c = both-true (settled j e x) (everySettled js es cs) h .0
 every-settled (j ∷ js) (e ∷ es) (x ∷ cs) h (suc i) a b c =
-    every-settled js es cs (both (settled j e x) (everySettled js es cs) h .1) i (le-of-suc-le-suc a) (le-of-suc-le-suc b) (le-of-suc-le-suc c)
+    every-settled js es cs (both-true (settled j e x) (everySettled js es cs) h .1) i (le-of-suc-le-suc a) (le-of-suc-le-suc b) (le-of-suc-le-suc c)
 
 settled-says : (j : Job) (e : Entry) (count : ℕ) → settled j e count ≡ true → live e ≡ true → (count ≤ e .given) × (isHi j ≡ true → e .given < j .lo)
 unfolding settled
 settled-says j e count h alive =
-    let w = both (count ≤? e .given) (not (pastLo j e)) (rw alive at h) in
+    let w = both-true (count ≤? e .given) (not (pastLo j e)) (rw alive at h) in
     (leb-true count (e .given) (w .0), λ high. past-lo-no j e (not-true (pastLo j e) (w .1)) alive high)
 
 -- a run that can return is on the table
@@ -130,6 +132,25 @@ return-on-table s a b c h = record { ahead = λ k l alive. says k l alive .0; ea
         let q = every-settled (jobsOf (s .plan)) (s .job) (countsAt (s .plan) (s .t)) h k x (omega arith) y in
         settled-says (jobAt (s .plan) k) (entryAt s k) (tab (s .plan) k (s .t)) (rw (getD-take (s .plan .jobs) (s .plan .job) k blankJob l, counts-at (s .plan) (s .t) k (omega arith), e) at q) alive
 
+-- ---- the record, by places
+
+module _ (r : Run) (w : Recorded r) where
+  pub rule-at : (k : ℕ) → k < r .plan .jobs → standingHolds (r .t) (jobAt (r .plan) k .hi) (givenAt r k) (entryAt r k .standing) ≡ true
+  rule-at k l = rw (number-place k) at (w .holds (suc k) (job-of-place (r .plan) k l))
+
+  -- a live job has fewer slots than hi
+  pub fewer-than-hi : (k : ℕ) → k < r .plan .jobs → liveAt r k ≡ true → givenAt r k < jobAt (r .plan) k .hi
+  fewer-than-hi k l h = live-fewer (r .t) (jobAt (r .plan) k .hi) (givenAt r k) (entryAt r k .standing) (rule-at k l) h
+
+  -- and its deadline is to come
+  pub live-open : Kept (r .plan) r → (k : ℕ) → k < r .plan .jobs → liveAt r k ≡ true → r .t < jobAt (r .plan) k .deadline
+  live-open kept k l alive = go (isHi (jobAt (r .plan) k)) refl (decLe (jobAt (r .plan) k .deadline) (r .t))
+    where
+      go : (b : Bool) → isHi (jobAt (r .plan) k) ≡ b → Dec (jobAt (r .plan) k .deadline ≤ r .t) → r .t < jobAt (r .plan) k .deadline
+      go b e (no q) = omega arith
+      go false e (yes q) = kept .expiry k l e alive
+      go true e (yes q) = absurd (let m = high-met (r .plan) (r .t) (givenAt r) (liveAt r) (kept .room) k l e q alive in let f = fewer-than-hi k l alive in omega arith)
+
 -- ---- one step, by places
 
 module _ (r : Run) (w : Recorded r) (report : Report) (ok : Taken r report) where
@@ -139,17 +160,17 @@ module _ (r : Run) (w : Recorded r) (report : Report) (ok : Taken r report) wher
   abbrev who : ℕ
   who = jobRun (chosen r)
 
-  next-at : (k : ℕ) → k < r .plan .jobs → entryAt next k ≡ entryAfter (r .t + 1) (jobAt (r .plan) k) (who =? suc k) (report .kind) (entryAt r k)
+  pub next-at : (k : ℕ) → k < r .plan .jobs → entryAt next k ≡ entryAfter (r .t + 1) (jobAt (r .plan) k) (who =? suc k) (report .kind) (entryAt r k)
   next-at k l = rw (number-place k) at (next-entry r w report ok (suc k) (job-of-place (r .plan) k l))
 
-  given-next : (k : ℕ) → k < r .plan .jobs → givenAt next k ≡ givenAt r k + (if who =? suc k then 1 else 0)
+  pub given-next : (k : ℕ) → k < r .plan .jobs → givenAt next k ≡ givenAt r k + (if who =? suc k then 1 else 0)
   given-next k l = ap (λ (e : Entry). e .given) (next-at k l) ∙ given-after (r .t + 1) (jobAt (r .plan) k) (who =? suc k) (report .kind) (entryAt r k)
 
   alive-next : (k : ℕ) → k < r .plan .jobs → liveAt next k ≡ true → live (entryAfter (r .t + 1) (jobAt (r .plan) k) (who =? suc k) (report .kind) (entryAt r k)) ≡ true
   alive-next k l h = sym (ap (λ (e : Entry). live e) (next-at k l)) ∙ h
 
   -- the slot went to what was chosen
-  slot-to : SlotTo (r .plan) who (givenAt r) (givenAt next) (liveAt r) (liveAt next)
+  pub slot-to : SlotTo (r .plan) who (givenAt r) (givenAt next) (liveAt r) (liveAt next)
   slot-to = record {
     more = λ k l e. given-next k l ∙ ap (λ (b : Bool). givenAt r k + (if b then 1 else 0)) (eq-eqb who (suc k) e);
     others = λ k l e. given-next k l ∙ ap (λ (b : Bool). givenAt r k + (if b then 1 else 0)) (ne-eqb who (suc k) e) ∙ omega arith;
@@ -157,15 +178,10 @@ module _ (r : Run) (w : Recorded r) (report : Report) (ok : Taken r report) wher
   }
 
   -- what is chosen is a job of the plan that is live, released, and has fewer slots than hi
-  chosen-at : (k : ℕ) → who ≡ suc k → (k < r .plan .jobs) × (liveAt r k ≡ true) × (jobAt (r .plan) k .release ≤ r .t)
+  pub chosen-at : (k : ℕ) → who ≡ suc k → (k < r .plan .jobs) × (liveAt r k ≡ true) × (jobAt (r .plan) k .release ≤ r .t)
   chosen-at k e =
       let c = chosen-is-ready r w (ok .more) (suc k) (own-slot (chosen r) (suc k) (omega arith) (eq-eqb who (suc k) e)) in
       (c .0 .1, rw (number-place k) at (c .1 .0), rw (number-place k) at (c .1 .1))
-
-  fewer-than-hi : (k : ℕ) → k < r .plan .jobs → liveAt r k ≡ true → givenAt r k < jobAt (r .plan) k .hi
-  fewer-than-hi k l h =
-      let rule = rw (number-place k) at (w .holds (suc k) (job-of-place (r .plan) k l)) in
-      live-fewer (r .t) (jobAt (r .plan) k .hi) (givenAt r k) (entryAt r k .standing) rule h
 
   next-fits : next .plan .jobs ≤ length (next .job)
   next-fits = rw (next-plan r (chosen r) (report .kind), next-length r (chosen r) (report .kind)) (es-fit r w)
@@ -185,7 +201,7 @@ module _ (r : Run) (w : Recorded r) (report : Report) (ok : Taken r report) wher
 
   -- ---- phase T
 
-  table-first : r .phase ≡ T → TableFirst (r .plan) (r .t) who (liveAt r)
+  pub table-first : r .phase ≡ T → TableFirst (r .plan) (r .t) who (liveAt r)
   table-first phase k l e alive =
       ⊎-elim
       (λ c. ap jobRun (c .2) ∙ e)
@@ -284,7 +300,7 @@ module _ (r : Run) (w : Recorded r) (report : Report) (ok : Taken r report) wher
           first j q high before =
               let c = chosen-at j q in
               earliest-feasible (r .plan) (r .t) (givenAt r) (givenAt next) (liveAt r) (liveAt next) now j
-              (record { there = c .0; high = high; alive = c .1; first = before }) (fewer-than-hi j (c .0) (c .1)) (rw q at slot-to)
+              (record { there = c .0; high = high; alive = c .1; first = before }) (fewer-than-hi r w j (c .0) (c .1)) (rw q at slot-to)
 
       after : (b : Bool) → canReturn next ≡ b → next .phase ≡ (if b then T else H)
       after b e = next-phase r (chosen r) (report .kind) ∙ ap (λ (x : Phase). phaseAfter x next (chosen r)) phase ∙ ap (λ (b : Bool). if b then T else H) e
@@ -312,7 +328,7 @@ module _ (r : Run) (w : Recorded r) (report : Report) (ok : Taken r report) wher
 -- ---- the start
 
 module _ (p : Plan) (order : InOrder p) (a2 : A2 p) where
-  fresh : (k : ℕ) → k < p .jobs → entryAt (newRun p) k ≡ freshEntry
+  pub fresh : (k : ℕ) → k < p .jobs → entryAt (newRun p) k ≡ freshEntry
   fresh k l = let m = order .jobs .1 in getD-replicate maxJobs k freshEntry freshEntry (omega arith)
 
   new-on-table : OnTable p 0 (givenAt (newRun p)) (liveAt (newRun p))

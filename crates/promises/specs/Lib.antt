@@ -4,9 +4,9 @@ pub mod Demands
 pub mod Refused
 pub mod Shams
 pub mod General
-pub mod InOrder
 pub mod ChoiceLaws
 pub mod NextLaws
 pub mod StepLaws
 pub mod History
 pub mod Kept
+pub mod Deadlines

@@ -12,6 +12,7 @@ use borrow.Author.Tests.{leb-true, leb-false, ltb-true, eqb-false, lt-ltb, le-le
 use Rattle.plan.specs.declared.Job.{Job}
 use Rattle.words.specs.Words.{if_then_else_, _≤?_, _=?_}
 use Rattle.plan.specs.Plan.{jobsOf, jobNo, isHi, blankJob}
+use Rattle.acceptance_promise.specs.RefusalLaws.{both-true}
 use Rattle.executive.specs.declared.Standing.{Standing}
 use Rattle.executive.specs.declared.Standing.the-variants.{Waiting, Finished, Cut, Dropped}
 use Rattle.executive.specs.declared.Entry.{Entry}
@@ -25,7 +26,7 @@ use Rattle.executive.specs.Run.{live, waiting, entryNo, freshEntry, freshHi, fr
 use Rattle.executive.specs.Coherent.{standingHolds}
 use Rattle.executive.specs.Step.{standingAfter, ranOn, entriesAfter, reported, expiredEntry, expiredEntries, expired, overrun, canReturn, phaseAfter, judged, refreshed, nextRun}
 use Rattle.promises.specs.Demands.{JobOf, jobRun, firstEnd}
-use Rattle.promises.specs.General.{both, joined}
+use Rattle.promises.specs.General.{joined}
 
 -- ---- the whole record
 
@@ -64,9 +65,13 @@ next-phase r slot kind = same-phase (r .phase) r slot kind
 
 -- ---- one entry
 
--- the entry of one job after the slot that ends at `border`: `own` says whether the slot was its own
+-- the entry of one job with the report of the slot that ends at `border`: `own` says whether the slot was its own
+abbrev pub reportedEntry : ℕ → Job → Bool → Kind → Entry → Entry
+reportedEntry border j own kind e = if own then ranOn kind border j e else e
+
+-- and after expiry
 unfoldable pub entryAfter : ℕ → Job → Bool → Kind → Entry → Entry
-entryAfter border j own kind e = expiredEntry border j (if own then ranOn kind border j e else e)
+entryAfter border j own kind e = expiredEntry border j (reportedEntry border j own kind e)
 
 -- expiry goes over the plan's jobs, one by one
 expired-at : (t : ℕ) (js : List Job) (es : List Entry) (i : ℕ) → i < length js → i < length es → getD (expiredEntries t js es) i freshEntry ≡ expiredEntry t (getD js i blankJob) (getD es i freshEntry)
@@ -128,7 +133,7 @@ abbrev pub leftAlone : Job → ℕ → Standing
 leftAlone j border = if not (isHi j) && (j .deadline ≤? border) then Dropped border else Waiting
 
 module _ (border : ℕ) (j : Job) where
-  expired-given : (e : Entry) → expiredEntry border j e .given ≡ e .given
+  pub expired-given : (e : Entry) → expiredEntry border j e .given ≡ e .given
   unfolding expiredEntry
   expired-given e = go (live e && not (isHi j) && (j .deadline ≤? border))
     where
@@ -136,7 +141,7 @@ module _ (border : ℕ) (j : Job) where
       go true = refl
       go false = refl
 
-  expired-stands : (s : Standing) (g : ℕ) → expiredEntry border j (record { standing = s; given = g }) .standing ≡ firstEnd s (leftAlone j border)
+  pub expired-stands : (s : Standing) (g : ℕ) → expiredEntry border j (record { standing = s; given = g }) .standing ≡ firstEnd s (leftAlone j border)
   unfolding expiredEntry
   expired-stands Waiting g = go (not (isHi j) && (j .deadline ≤? border))
     where
@@ -151,10 +156,14 @@ module _ (border : ℕ) (j : Job) where
   expired-stands (Dropped b) g = refl
 
   -- the slot is counted to its own job
+  pub reported-given : (own : Bool) (kind : Kind) (e : Entry) → reportedEntry border j own kind e .given ≡ e .given + (if own then 1 else 0)
+  unfolding ranOn
+  reported-given true kind e = refl
+  reported-given false kind e = omega arith
+
   pub given-after : (own : Bool) (kind : Kind) (e : Entry) → entryAfter border j own kind e .given ≡ e .given + (if own then 1 else 0)
-  unfolding entryAfter ranOn
-  given-after true kind e = expired-given (ranOn kind border j e)
-  given-after false kind e = expired-given e ∙ omega arith
+  unfolding entryAfter
+  given-after own kind e = expired-given (reportedEntry border j own kind e) ∙ reported-given own kind e
 
   -- a live job that had the slot: as reported, or else left alone
   ran-stands : (kind : Kind) (given : ℕ) → firstEnd (standingAfter kind (j .hi) given border Waiting) (leftAlone j border) ≡ standingAfter kind (j .hi) given border (leftAlone j border)
@@ -197,18 +206,22 @@ module _ (border : ℕ) (j : Job) where
       go false h = h
   ran-alive None given s h = h
 
-  -- a live job was live before and is not left to be dropped
-  still-alive : (own : Bool) (kind : Kind) (e : Entry) → live (entryAfter border j own kind e) ≡ true → (live e ≡ true) × (waiting (leftAlone j border) ≡ true)
-  unfolding entryAfter ranOn
-  still-alive false kind e h = first-alive (e .standing) (leftAlone j border) (rw (expired-stands (e .standing) (e .given)) at h)
-  still-alive true kind e h =
-      let s = standingAfter kind (j .hi) (e .given + 1) border (e .standing) in
-      let w = first-alive s (leftAlone j border) (rw (expired-stands s (e .given + 1)) at h) in
-      (ran-alive kind (e .given + 1) (e .standing) (w .0), w .1)
+  -- a job that is live with the report was live before
+  pub reported-alive : (own : Bool) (kind : Kind) (e : Entry) → live (reportedEntry border j own kind e) ≡ true → live e ≡ true
+  unfolding ranOn
+  reported-alive false kind e h = h
+  reported-alive true kind e h = ran-alive kind (e .given + 1) (e .standing) h
+
+  -- and one that is live after expiry is not left to be dropped
+  still-alive : (own : Bool) (kind : Kind) (e : Entry) → live (entryAfter border j own kind e) ≡ true → (live (reportedEntry border j own kind e) ≡ true) × (waiting (leftAlone j border) ≡ true)
+  unfolding entryAfter
+  still-alive own kind e h =
+      let x = reportedEntry border j own kind e in
+      first-alive (x .standing) (leftAlone j border) (rw (expired-stands (x .standing) (x .given)) at h)
 
   -- nobody comes to life
   pub live-after : (own : Bool) (kind : Kind) (e : Entry) → live (entryAfter border j own kind e) ≡ true → live e ≡ true
-  live-after own kind e h = still-alive own kind e h .0
+  live-after own kind e h = reported-alive own kind e (still-alive own kind e h .0)
 
   -- no LO job lives on at its deadline
   pub low-after : (own : Bool) (kind : Kind) (e : Entry) → live (entryAfter border j own kind e) ≡ true → isHi j ≡ false → border < j .deadline
@@ -236,9 +249,9 @@ ended-holds t hi given b h l = joined (given ≤? hi) (b ≤? t) (le-leb given h
 later-holds : (t hi given : ℕ) (s : Standing) → standingHolds t hi given s ≡ true → standingHolds (t + 1) hi given s ≡ true
 unfolding standingHolds
 later-holds t hi given Waiting h = h
-later-holds t hi given (Finished b) h = let w = both (given ≤? hi) (b ≤? t) h in ended-holds (t + 1) hi given b (leb-true given hi (w .0)) (omega (arith, leb-true b t (w .1)))
-later-holds t hi given (Cut b) h = let w = both (given ≤? hi) (b ≤? t) h in ended-holds (t + 1) hi given b (leb-true given hi (w .0)) (omega (arith, leb-true b t (w .1)))
-later-holds t hi given (Dropped b) h = let w = both (given ≤? hi) (b ≤? t) h in ended-holds (t + 1) hi given b (leb-true given hi (w .0)) (omega (arith, leb-true b t (w .1)))
+later-holds t hi given (Finished b) h = let w = both-true (given ≤? hi) (b ≤? t) h in ended-holds (t + 1) hi given b (leb-true given hi (w .0)) (omega (arith, leb-true b t (w .1)))
+later-holds t hi given (Cut b) h = let w = both-true (given ≤? hi) (b ≤? t) h in ended-holds (t + 1) hi given b (leb-true given hi (w .0)) (omega (arith, leb-true b t (w .1)))
+later-holds t hi given (Dropped b) h = let w = both-true (given ≤? hi) (b ≤? t) h in ended-holds (t + 1) hi given b (leb-true given hi (w .0)) (omega (arith, leb-true b t (w .1)))
 
 module _ (t : ℕ) (j : Job) where
   -- expiry keeps it
@@ -264,21 +277,26 @@ module _ (t : ℕ) (j : Job) where
       go false e = let ne : g + 1 ≡ j .hi → ⊥ = eqb-false (g + 1) (j .hi) e in lt-ltb (g + 1) (j .hi) (omega arith)
   ran-holds None g fit h = absurd (fit refl)
 
--- one step keeps the record's rule
-pub holds-after : (t : ℕ) (j : Job) (own : Bool) (kind : Kind) (e : Entry) → (own ≡ true → live e ≡ true) → (own ≡ true → kind ≡ None → ⊥)
+-- the report keeps the record's rule
+pub reported-holds : (t : ℕ) (j : Job) (own : Bool) (kind : Kind) (e : Entry) → (own ≡ true → live e ≡ true) → (own ≡ true → kind ≡ None → ⊥)
     → standingHolds t (j .hi) (e .given) (e .standing) ≡ true
-    → standingHolds (t + 1) (j .hi) (entryAfter (t + 1) j own kind e .given) (entryAfter (t + 1) j own kind e .standing) ≡ true
-unfolding entryAfter ranOn
-holds-after t j false kind e alive fit h =
-    rw (expired-given (t + 1) j e, expired-stands (t + 1) j (e .standing) (e .given)) (expired-holds (t + 1) j (e .standing) (e .given) (later-holds t (j .hi) (e .given) (e .standing) h))
-holds-after t j true kind e alive fit h = go (e .standing) (alive refl) h
+    → standingHolds (t + 1) (j .hi) (reportedEntry (t + 1) j own kind e .given) (reportedEntry (t + 1) j own kind e .standing) ≡ true
+unfolding ranOn
+reported-holds t j false kind e alive fit h = later-holds t (j .hi) (e .given) (e .standing) h
+reported-holds t j true kind e alive fit h = go (e .standing) (alive refl) h
   where
     go : (s : Standing) → waiting s ≡ true → standingHolds t (j .hi) (e .given) s ≡ true
-        → standingHolds (t + 1) (j .hi) (expiredEntry (t + 1) j (ranOn kind (t + 1) j (record { standing = s; given = e .given })) .given) (expiredEntry (t + 1) j (ranOn kind (t + 1) j (record { standing = s; given = e .given })) .standing) ≡ true
-    go Waiting w h =
-        let s = standingAfter kind (j .hi) (e .given + 1) (t + 1) Waiting in
-        rw (expired-given (t + 1) j (record { standing = s; given = e .given + 1 }), expired-stands (t + 1) j s (e .given + 1))
-        (expired-holds (t + 1) j s (e .given + 1) (ran-holds (t + 1) j kind (e .given) (fit refl) (live-fewer t (j .hi) (e .given) Waiting h refl)))
+        → standingHolds (t + 1) (j .hi) (e .given + 1) (standingAfter kind (j .hi) (e .given + 1) (t + 1) s) ≡ true
+    go Waiting w h = ran-holds (t + 1) j kind (e .given) (fit refl) (live-fewer t (j .hi) (e .given) Waiting h refl)
     go (Finished b) w h = absurd (false≢true w)
     go (Cut b) w h = absurd (false≢true w)
     go (Dropped b) w h = absurd (false≢true w)
+
+-- so does the whole step
+pub holds-after : (t : ℕ) (j : Job) (own : Bool) (kind : Kind) (e : Entry) → (own ≡ true → live e ≡ true) → (own ≡ true → kind ≡ None → ⊥)
+    → standingHolds t (j .hi) (e .given) (e .standing) ≡ true
+    → standingHolds (t + 1) (j .hi) (entryAfter (t + 1) j own kind e .given) (entryAfter (t + 1) j own kind e .standing) ≡ true
+unfolding entryAfter
+holds-after t j own kind e alive fit h =
+    let x = reportedEntry (t + 1) j own kind e in
+    rw (expired-given (t + 1) j x, expired-stands (t + 1) j (x .standing) (x .given)) (expired-holds (t + 1) j (x .standing) (x .given) (reported-holds t j own kind e alive fit h))

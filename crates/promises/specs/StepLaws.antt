@@ -18,6 +18,9 @@ use Rattle.plan.specs.Plan.{jobsOf, jobNo, blankJob}
 use Rattle.answers.specs.Answer.{accepted, _unless_, _andThen_}
 use Rattle.intervals.specs.Spares.{hiLeft, loLeft}
 use Rattle.acceptance.specs.Acceptance.{wellFormed, acceptance, check8, check9}
+use Rattle.acceptance_promise.specs.Promise.{InOrder}
+use Rattle.acceptance_promise.specs.RefusalLaws.{unless-holds, both-accept}
+use Rattle.acceptance_promise.specs.InOrderLaws.{in-order}
 use Rattle.executive.specs.declared.Run.{Run}
 use Rattle.executive.specs.declared.Slot.{Slot}
 use Rattle.executive.specs.declared.Kind.{Kind}
@@ -28,8 +31,7 @@ use Rattle.executive.specs.Coherent.{standingHolds, entriesHold, sameSpare, sam
 use Rattle.executive.specs.Choice.{chosen, canGoOn}
 use Rattle.executive.specs.Step.{nextRun, kindFits, reportAnswer, step}
 use Rattle.promises.specs.Demands.{Sized, JobOf, jobRun}
-use Rattle.promises.specs.General.{joined, is-accepted, both-accepted, unless-holds, zip-every}
-use Rattle.promises.specs.InOrder.{InOrder, in-order}
+use Rattle.promises.specs.General.{joined, is-accepted, zip-every}
 use Rattle.promises.specs.ChoiceLaws.{Ready, chosen-ready}
 use Rattle.promises.specs.NextLaws.{next-plan, next-t, next-hi, next-lo, next-length, entryAfter, entry-next, holds-after}
 
@@ -59,9 +61,9 @@ next-run r report h = rw (accepted-report r report h)
 pub taken : (r : Run) (report : Report) → step r report .answer ≡ Accepted → Taken r report
 unfolding reportAnswer canGoOn accepted
 taken r report h =
-    let a = both-accepted (canGoOn r) _ (accepted-report r report h) in
-    let b = both-accepted (Incoherent unless coherent r) (Over (r .t) unless (r .t <? r .plan .slots)) (a .0) in
-    let c = both-accepted (OtherSlot (r .t) unless (report .slot =? r .t)) (WrongKind (r .t) unless kindFits (chosen r) (report .kind)) (a .1) in
+    let a = both-accept (canGoOn r) _ (accepted-report r report h) in
+    let b = both-accept (Incoherent unless coherent r) (Over (r .t) unless (r .t <? r .plan .slots)) (a .0) in
+    let c = both-accept (OtherSlot (r .t) unless (report .slot =? r .t)) (WrongKind (r .t) unless kindFits (chosen r) (report .kind)) (a .1) in
     record {
       whole = unless-holds Incoherent (coherent r) refl (b .0);
       more = ltb-true (r .t) (r .plan .slots) (unless-holds (Over (r .t)) (r .t <? r .plan .slots) refl (b .1));
@@ -79,6 +81,7 @@ taken-accepted r report w = rw (w .whole, lt-ltb (r .t) (r .plan .slots) (w .mor
 -- everything that coherence asks, and more: the record's own lengths, and rows that are the fresh ones as lists
 pub record Recorded (r : Run) : Type 0 where
   pub well : accepted (wellFormed (r .plan)) ≡ true
+  pub sized : Sized (r .plan)
   pub order : InOrder (r .plan)
   pub long : length (r .job) ≡ maxJobs
   pub time : r .t ≤ r .plan .slots
@@ -99,10 +102,10 @@ same-row (z ∷ zs) = joined (sameSpare z z) (sameRow zs zs) (same-spare z) (sam
 module _ (r : Run) (w : Recorded r) where
   -- the plan's jobs are in its array, and their entries in the run's
   pub js-fit : r .plan .jobs ≤ length (r .plan .job)
-  js-fit = let a = w .order .jobs in let b = w .order .sized .0 in omega arith
+  js-fit = let a = w .order .jobs .1 in let b = w .sized .0 in omega arith
 
   pub es-fit : r .plan .jobs ≤ length (r .job)
-  es-fit = let a = w .order .jobs in let b = w .long in omega arith
+  es-fit = let a = w .order .jobs .1 in let b = w .long in omega arith
 
   entries-hold : entriesHold r ≡ true
   unfolding entriesHold
@@ -133,7 +136,7 @@ own-slot Slot.Idle k l e = absurd (let z = eqb-true 0 k e in omega arith)
 own-slot (Slot.Job m) k l e = ap {B = Slot} Slot.Job (eqb-true m k e)
 
 -- `none` fits no slot with a job
-none-fits-idle : (slot : Slot) (k : ℕ) (kind : Kind) → slot ≡ Slot.Job k → kindFits slot kind ≡ true → kind ≡ None → ⊥
+pub none-fits-idle : (slot : Slot) (k : ℕ) (kind : Kind) → slot ≡ Slot.Job k → kindFits slot kind ≡ true → kind ≡ None → ⊥
 unfolding kindFits
 none-fits-idle slot k kind e h q = false≢true (rw (e, q) at h)
 
@@ -165,6 +168,7 @@ module _ (r : Run) (w : Recorded r) (report : Report) (ok : Taken r report) wher
       let t = next-t r (chosen r) (report .kind) in
       record {
         well = rw plan (w .well);
+        sized = rw plan (w .sized);
         order = rw plan (w .order);
         long = next-length r (chosen r) (report .kind) ∙ w .long;
         time = rw (plan, t) (let m = ok .more in omega arith);
@@ -197,15 +201,15 @@ start-run p h = rw (start-accepted p h)
 
 pub accepted-well-formed : (p : Plan) → accepted (acceptance p) ≡ true → accepted (wellFormed p) ≡ true
 unfolding acceptance
-accepted-well-formed p h = both-accepted (wellFormed p) (check8 p andThen check9 p) h .0
+accepted-well-formed p h = both-accept (wellFormed p) (check8 p andThen check9 p) h .0
 
 module _ (p : Plan) (sz : Sized p) (well : accepted (wellFormed p) ≡ true) where
   ok : InOrder p
-  ok = in-order p sz well
+  ok = in-order p (sz .0) (sz .1) well
 
   few : length (jobsOf p) ≤ maxJobs
   few =
-      let a = ok .jobs in
+      let a = ok .jobs .1 in
       let b : p .jobs ≤ length (p .job) = (let c = sz .0 in omega arith) in
       rw (length-take-le (p .jobs) (p .job) b) a
 
@@ -213,17 +217,18 @@ module _ (p : Plan) (sz : Sized p) (well : accepted (wellFormed p) ≡ true) whe
   fresh-at k l =
       let a = l .0 in
       let b = l .1 in
-      let c = ok .jobs in
+      let c = ok .jobs .1 in
       getD-replicate maxJobs (k - 1) freshEntry freshEntry (omega arith)
 
   start-holds : (k : ℕ) → JobOf p k → standingHolds 0 (jobNo p k .hi) (entryNo (newRun p) k .given) (entryNo (newRun p) k .standing) ≡ true
   unfolding standingHolds
-  start-holds k l = rw (fresh-at k l) (let a = ok .some k l in let b = ok .budget k l in lt-ltb 0 (jobNo p k .hi) (omega arith))
+  start-holds k l = rw (fresh-at k l) (let m : k - 1 < p .jobs = (let x = l .0 in let y = l .1 in omega arith) in let a = ok .some (k - 1) m in let b = ok .budget (k - 1) m in lt-ltb 0 (jobNo p k .hi) (omega arith))
 
   pub start-recorded : Recorded (newRun p)
   unfolding freshHi freshLo hiWork loWork
   start-recorded = record {
     well = well;
+    sized = sz;
     order = ok;
     long = length-replicate maxJobs freshEntry;
     time = zero-le;
