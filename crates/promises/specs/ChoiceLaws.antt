@@ -20,9 +20,10 @@ use Rattle.executive.specs.declared.Phase.the-variants.{T, H}
 use Rattle.executive.specs.declared.Run.{Run}
 use Rattle.executive.specs.declared.Slot.{Slot}
 use Rattle.executive.specs.Run.{live, entryNo, freshEntry, currentHi, currentLo}
+use Rattle.executive.specs.ZipLaws.{zipped-at}
 use Rattle.executive.specs.Choice.{isReady, ready, readyHi, goesBefore, better, earliestFrom, earliest, chosenT, chosenH, chosen}
 use Rattle.promises.specs.Demands.{JobOf}
-use Rattle.promises.specs.General.{joined, getD-zip, zip-member}
+use Rattle.promises.specs.General.{joined, zip-member}
 
 -- ---- earliest deadline
 
@@ -149,7 +150,7 @@ module _ (p : Plan) (es : List Entry) (js-fit : p .jobs ≤ length (p .job)) (es
       let a = l .0 in
       let b = l .1 in
       let m : k - 1 < p .jobs = omega arith in
-      rw (getD-zip test blankJob freshEntry (jobsOf p) es (k - 1) false (rw (length-take-le (p .jobs) (p .job) js-fit) m) (omega arith), getD-take (p .jobs) (p .job) (k - 1) blankJob m) h
+      zipped-at test (p .job) es (p .jobs) js-fit es-fit (k - 1) blankJob freshEntry false m ∙ h
 
   -- the earliest-deadline job that passes, or idle where none does
   abbrev EarliestOf : Slot → Type 0

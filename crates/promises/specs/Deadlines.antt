@@ -1,7 +1,7 @@
 -- Demands 3a and 3b: what the deadlines of an accepted plan's runs find. Proved from the run's invariant and from demand 2.
 use Prim.Native.Nat.{ℕ, zero, suc, _+_, _-_, _≤_, _<_, suc-le-suc, zero-le}
-use native.Mathlib.Nat.{not-suc-le-zero, le-of-suc-le-suc}
-use native.Mathlib.Decide.{decLe, decLt, ℕ-discrete}
+use native.Mathlib.Nat.{not-suc-le-zero}
+use native.Mathlib.Decide.{decLt}
 use native.Mathlib.Omega.{arith}
 use mathlib.Core.Path.{_≡_, refl, sym, ap, subst, _∙_}
 use mathlib.Core.Logic.{_⊎_, inl, inr, ⊎-elim}
@@ -9,14 +9,15 @@ use mathlib.Core.Bool.{Bool, true, false, not, _&&_, false≢true}
 use mathlib.Core.List.{List, [], _∷_, _++_, map}
 use lib.ListN.{length, take, drop, getD, length-append, length-map, List·getD-append}
 use lib.Seq.{getD-at, take-nil, drop-nil}
-use borrow.Author.Tests.{leb-true, eqb-true, eqb-false, eq-eqb, ne-eqb}
+use borrow.Author.Tests.{leb-true, eqb-true, ne-eqb}
 use Rattle.plan.specs.declared.Job.{Job}
 use Rattle.plan.specs.declared.Plan.{Plan}
 use Rattle.words.specs.Words.{if_then_else_, _≤?_, _=?_}
 use Rattle.plan.specs.Plan.{jobNo, isHi, naming}
-use Rattle.acceptance_promise.specs.Promise.{jobAt, InOrder, A2}
+use Rattle.acceptance_promise.specs.Promise.{jobAt, A2}
 use Rattle.acceptance_promise.specs.RefusalLaws.{never}
 use Rattle.acceptance_promise.specs.InOrderLaws.{in-order}
+use Rattle.acceptance_promise.specs.Laws.{accepted-has}
 use Rattle.acceptance_promise.specs.OneSlot.{SlotTo}
 use Rattle.acceptance_promise.specs.OneSlotLaws.{table-met}
 use Rattle.executive.specs.declared.Standing.{Standing}
@@ -31,11 +32,11 @@ use Rattle.executive.specs.declared.Report.{Report}
 use Rattle.executive.specs.Run.{live, waiting, entryNo}
 use Rattle.executive.specs.Choice.{chosen}
 use Rattle.executive.specs.Step.{standingAfter, ranOn, nextRun}
-use Rattle.promises.specs.Demands.{JobOf, FinishedInTime, HadWholeBudget, Reached, started, stepped, Event, event, jobRun, jobsRun, phaseAt, firstEnd}
+use Rattle.promises.specs.Demands.{Demand3a, Demand3b, JobOf, FinishedInTime, HadWholeBudget, Reached, started, stepped, Event, event, jobRun, jobsRun, phaseAt, firstEnd}
 use Rattle.promises.specs.NextLaws.{next-plan, reportedEntry, entryAfter, leftAlone, expired-given, expired-stands, reported-given, reported-alive, reported-holds, live-fewer}
 use Rattle.promises.specs.StepLaws.{Taken, taken, Recorded, own-slot, none-fits-idle, next-run, start-run, start-accepted, accepted-well-formed}
 use Rattle.promises.specs.History.{reached-plan, reached-recorded, reached-t, reached-given}
-use Rattle.promises.specs.Kept.{Kept, SpareAbove, entryAt, givenAt, liveAt, rule-at, fewer-than-hi, live-open, next-at, given-next, slot-to, chosen-at, table-first, kept-start, kept-next, fresh}
+use Rattle.promises.specs.Kept.{Kept, entryAt, givenAt, liveAt, rule-at, live-open, next-at, given-next, slot-to, chosen-at, table-first, kept-start, kept-next, fresh}
 
 -- ---- histories with one event more
 
@@ -196,14 +197,13 @@ module _ (h : List Event) (r : Run) (w : Recorded r) (report : Report) (ok : Tak
   drop-tells : (k : ℕ) → k < r .plan .jobs → DropTells (h ++ event r report ∷ []) (jobAt (r .plan) k) (r .t + 1) (reportedAt k .standing)
   drop-tells k l alive low due =
       let open-until = live-open r w kept k l (reported-slot .fewer k l alive) in
-      let long = length-append h (event r report ∷ []) in
-      (
+      let long = length-append h (event r report ∷ []) in (
         omega arith,
         λ e. let phase : r .phase ≡ T = sym (phase-last h (event r report) (jobAt (r .plan) k .deadline - 1) (omega arith)) ∙ e in
-        let met = table-met (r .plan) (w .order) (r .t) who (givenAt r) (givenAt next) (liveAt r) (λ k. live (reportedAt k)) (kept .table phase) (table-first r w report ok phase) reported-slot k l (omega arith) alive in
-        let few = reported-fewer k l alive in
-        let whole = w .order .low k l low in
-        omega arith,
+            let met = table-met (r .plan) (w .order) (r .t) who (givenAt r) (givenAt next) (liveAt r) (λ k. live (reportedAt k)) (kept .table phase) (table-first r w report ok phase) reported-slot k l (omega arith) alive in
+            let few = reported-fewer k l alive in
+            let whole = w .order .low k l low in
+            omega arith,
       )
 
   -- so each end goes on telling
@@ -240,14 +240,14 @@ MetIn h r p =
     (k : ℕ) → JobOf p k → jobNo p k .deadline ≤ r .t → (isHi (jobNo p k) ≡ true) ⊎ (phaseAt h (jobNo p k .deadline - 1) ≡ T)
     → FinishedInTime p r k ⊎ HadWholeBudget p h r k
 
-module _ (p : Plan) (a2 : A2 p) (s2 : SpareAbove p) where
+module _ (p : Plan) (a2 : A2 p) where
   -- one step, from a run that was reached
   kept-step : {h : List Event} {r : Run} → Reached p h r → (report : Report) → Taken r report → Kept p r → Kept p (nextRun r (chosen r) (report .kind))
   kept-step {r = r} q report ok kept =
       let plan = reached-plan q in
       let w = reached-recorded q in
       subst (λ (x : Plan). Kept x (nextRun r (chosen r) (report .kind))) plan
-      (kept-next r w report ok (w .order) (subst A2 (sym plan) a2) (subst SpareAbove (sym plan) s2) (subst (λ (x : Plan). Kept x r) (sym plan) kept))
+      (kept-next r w report ok (subst A2 (sym plan) a2) (subst (λ (x : Plan). Kept x r) (sym plan) kept))
 
   -- the invariant
   pub reached-kept : {h : List Event} {r : Run} → Reached p h r → Kept p r
@@ -298,3 +298,20 @@ module _ (p : Plan) (a2 : A2 p) (s2 : SpareAbove p) where
 
   pub met : {h : List Event} {r : Run} → Reached p h r → MetIn h r p
   met {h} {r} q = subst (MetIn h r) (reached-plan q) (met-own q)
+
+-- ---- the demands
+
+-- an accepted plan's A2
+reached-a2 : {p : Plan} {h : List Event} {r : Run} → Reached p h r → A2 p
+reached-a2 {p} (started sz e) = accepted-has p (sz .0) (sz .1) (start-accepted p e) .2
+reached-a2 (stepped report q e) = reached-a2 q
+
+-- the invariant of every run that comes from a start
+pub kept : {p : Plan} {h : List Event} {r : Run} → Reached p h r → Kept p r
+kept {p} q = reached-kept p (reached-a2 q) q
+
+pub demand-3a : Demand3a
+demand-3a p h r q k l high due = met p (reached-a2 q) q k l due (inl high)
+
+pub demand-3b : Demand3b
+demand-3b p h r q k l low due phase = met p (reached-a2 q) q k l due (inr phase)

@@ -1,16 +1,15 @@
 -- General laws that the theorems of this crate use: tests and lists joined member by member. Nothing here is of the trade.
-use Prim.Native.Nat.{ℕ, zero, suc, _+_, _≤_, _<_, suc-le-suc, zero-le}
+use Prim.Native.Nat.{ℕ, zero, suc, _<_, suc-le-suc, zero-le}
 use native.Mathlib.Nat.{not-suc-le-zero, le-of-suc-le-suc}
-use native.Mathlib.Omega.{arith}
-use mathlib.Core.Path.{_≡_, refl, sym, ap, _∙_}
-use mathlib.Core.Bool.{Bool, true, false, _&&_, false≢true, true≢false}
+use mathlib.Core.Path.{_≡_, refl}
+use mathlib.Core.Bool.{Bool, true, false, _&&_, false≢true}
 use mathlib.Core.List.{List, [], _∷_, zipWith}
 use lib.ListN.{length, getD}
 use Rattle.words.specs.Words.{every}
 use Rattle.answers.specs.declared.Answer.{Answer}
 use Rattle.answers.specs.declared.Answer.the-variants.{Accepted}
 use Rattle.acceptance_promise.specs.RefusalLaws.{both-true}
-use Rattle.answers.specs.Answer.{accepted, _unless_, _andThen_, firstRefusal}
+use Rattle.answers.specs.Answer.{accepted}
 
 -- ---- tests
 
@@ -19,22 +18,6 @@ pub joined : (a b : Bool) → a ≡ true → b ≡ true → (a && b) ≡ true
 joined a b p q = rw (p, q)
 
 -- ---- lists
-
-module _ {A B C : Type 0} (f : A → B → C) (a : A) (b : B) where
-  -- a member of the joined list
-  pub getD-zip : (xs : List A) (ys : List B) (i : ℕ) (d : C) → i < length xs → i < length ys → getD (zipWith f xs ys) i d ≡ f (getD xs i a) (getD ys i b)
-  unfolding zipWith
-  getD-zip [] ys i d h l = absurd (not-suc-le-zero h)
-  getD-zip (x ∷ xs) [] i d h l = absurd (not-suc-le-zero l)
-  getD-zip (x ∷ xs) (y ∷ ys) zero d h l = refl
-  getD-zip (x ∷ xs) (y ∷ ys) (suc i) d h l = getD-zip xs ys i d (le-of-suc-le-suc h) (le-of-suc-le-suc l)
-
--- it is as long as the shorter
-pub length-zip : {A B C : Type 0} (f : A → B → C) (xs : List A) (ys : List B) → length xs ≤ length ys → length (zipWith f xs ys) ≡ length xs
-unfolding zipWith
-length-zip f [] ys h = refl
-length-zip f (x ∷ xs) [] h = absurd (not-suc-le-zero h)
-length-zip f (x ∷ xs) (y ∷ ys) h = ap suc (length-zip f xs ys (le-of-suc-le-suc h))
 
 module _ {A B : Type 0} (f : A → B → Bool) (a : A) (b : B) where
   -- a test that holds for one pair of the joined list is of members

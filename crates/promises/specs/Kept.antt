@@ -5,26 +5,27 @@ use native.Mathlib.Nat.{not-suc-le-zero, le-of-suc-le-suc}
 use native.Mathlib.Decide.{decLe, ℕ-discrete}
 use native.Mathlib.Omega.{arith}
 use mathlib.Core.Path.{_≡_, refl, sym, ap, _∙_}
-use mathlib.Core.Logic.{_⊎_, inl, inr, ⊎-elim}
-use mathlib.Core.Bool.{Bool, true, false, not, _&&_, _||_, false≢true, true≢false}
-use mathlib.Core.List.{List, [], _∷_, map}
+use mathlib.Core.Logic.{⊎-elim}
+use mathlib.Core.Bool.{Bool, true, false, not, _&&_, false≢true}
+use mathlib.Core.List.{List, [], _∷_}
 use lib.IntN.{ℤ}
-use lib.ListN.{length, take, getD, getD-replicate}
+use lib.ListN.{length, getD, getD-replicate}
 use lib.Seq.{getD-take, length-take-le}
 use borrow.Author.Tests.{leb-true, leb-false, not-true, eq-eqb, ne-eqb}
 use Rattle.plan.specs.declared.Job.{Job}
 use Rattle.plan.specs.declared.Plan.{Plan}
-use Rattle.words.specs.Words.{if_then_else_, _≤?_, _=?_, above0, countUp}
+use Rattle.words.specs.Words.{if_then_else_, _≤?_, _=?_, above0}
 use Rattle.windows.specs.Windows.{InTime, Feasible}
 use Rattle.windows.specs.WindowLaws.{met, in-time-mono}
 use Rattle.plan.specs.Limits.{maxJobs}
 use Rattle.plan.specs.CountLaws.{counts-length, counts-at}
-use Rattle.plan.specs.Plan.{jobsOf, jobNo, isHi, blankJob, tableAt, tableSlots, countsAt}
+use Rattle.plan.specs.Plan.{jobsOf, jobNo, isHi, blankJob, tableAt, countsAt}
 use Rattle.intervals.specs.Spares.{row, current, hiLeft}
 use Rattle.acceptance_promise.specs.Promise.{jobAt, windowsOf, tab, InOrder, A2}
 use Rattle.acceptance_promise.specs.CountLaws.{tab-start}
 use Rattle.acceptance_promise.specs.RefusalLaws.{both-true}
-use Rattle.acceptance_promise.specs.OneSlot.{hiRemaining, OnTable, SlotTo, TableFirst, EarliestHi, NoHiReady}
+use Rattle.acceptance_promise.specs.SpareLaws.{above-exactly}
+use Rattle.acceptance_promise.specs.OneSlot.{hiRemaining, OnTable, SlotTo, TableFirst, NoHiReady}
 use Rattle.acceptance_promise.specs.OneSlotLaws.{high-met, stays-on-table, table-feasible, overrun-feasible, earliest-feasible, nobody-feasible, spare-feasible}
 use Rattle.executive.specs.declared.Entry.{Entry}
 use Rattle.executive.specs.declared.Phase.{Phase}
@@ -33,12 +34,12 @@ use Rattle.executive.specs.declared.Run.{Run}
 use Rattle.executive.specs.declared.Slot.{Slot}
 use Rattle.executive.specs.declared.Report.{Report}
 use Rattle.executive.specs.Run.{live, entryNo, freshEntry, freshHi, hiWork, currentHi, newRun}
+use Rattle.executive.specs.ZipLaws.{zipped-at}
 use Rattle.executive.specs.Coherent.{standingHolds}
 use Rattle.executive.specs.Choice.{chosen, earliest, ready, readyHi}
 use Rattle.executive.specs.Step.{pastLo, overrun, settled, everySettled, canReturn, phaseAfter, nextRun}
 use Rattle.promises.specs.Demands.{JobOf, jobRun}
-use Rattle.promises.specs.General.{getD-zip, length-zip}
-use Rattle.promises.specs.ChoiceLaws.{Ready, same-job, idle-is-no-job, in-phase-T, in-phase-H, EarliestReadyHi, earliest-ready-hi}
+use Rattle.promises.specs.ChoiceLaws.{Ready, in-phase-T, in-phase-H, earliest-ready-hi}
 use Rattle.promises.specs.NextLaws.{next-plan, next-t, next-phase, next-length, entryAfter, given-after, live-after, low-after, live-fewer}
 use Rattle.promises.specs.StepLaws.{Taken, Recorded, js-fit, es-fit, chosen-is-ready, own-slot, next-entry}
 
@@ -51,12 +52,6 @@ givenAt r k = entryAt r k .given
 
 abbrev pub liveAt : Run → ℕ → Bool
 liveAt r k = live (entryAt r k)
-
--- S2, one half: while the current spare of a row is above 0, there is one slot to spare for the work of that row
-abbrev pub SpareAbove : Plan → Type 0
-SpareAbove p =
-    (t : ℕ) (ws : List ℕ) → t < p .slots → length ws ≡ p .jobs → ((k : ℕ) → k < p .jobs → jobAt p k .deadline ≤ t → getD ws k 0 ≡ 0)
-    → above0 (current p t (row p t ws)) ≡ true → InTime (windowsOf p) (t + 1) (λ k. getD ws k 0)
 
 -- I2 to I5 of every border
 pub record Kept (p : Plan) (r : Run) : Type 0 where
@@ -229,20 +224,20 @@ module _ (r : Run) (w : Recorded r) (report : Report) (ok : Taken r report) wher
   abbrev Goes : Type 0
   Goes = Feasible (windowsOf (r .plan)) (r .t + 1) (hiRemaining (r .plan) (givenAt next) (liveAt next)) × (next .phase ≡ T → OnTable (r .plan) (r .t + 1) (givenAt next) (liveAt next))
 
-  goes-T : InOrder (r .plan) → A2 (r .plan) → r .phase ≡ T → OnTable (r .plan) (r .t) (givenAt r) (liveAt r) → Goes
-  goes-T order a2 phase on = go (overrun next (chosen r)) refl
+  goes-T : A2 (r .plan) → r .phase ≡ T → OnTable (r .plan) (r .t) (givenAt r) (liveAt r) → Goes
+  goes-T a2 phase on = go (overrun next (chosen r)) refl
     where
       after : (b : Bool) → overrun next (chosen r) ≡ b → next .phase ≡ (if b then H else T)
       after b e = next-phase r (chosen r) (report .kind) ∙ ap (λ (x : Phase). phaseAfter x next (chosen r)) phase ∙ ap (λ (b : Bool). if b then H else T) e
 
       go : (b : Bool) → overrun next (chosen r) ≡ b → Goes
       go false e =
-          let on′ = stays-on-table (r .plan) order (r .t) who (givenAt r) (givenAt next) (liveAt r) (liveAt next) on (table-first phase) slot-to (no-overrun e) in
-          (table-feasible (r .plan) order a2 (r .t + 1) (givenAt next) (liveAt next) on′, λ _. on′)
+          let on′ = stays-on-table (r .plan) (w .order) (r .t) who (givenAt r) (givenAt next) (liveAt r) (liveAt next) on (table-first phase) slot-to (no-overrun e) in
+          (table-feasible (r .plan) (w .order) a2 (r .t + 1) (givenAt next) (liveAt next) on′, λ _. on′)
       go true e =
           let o = has-overrun e in
           let c = chosen-at (o .0) (o .1) in (
-            overrun-feasible (r .plan) order a2 (r .t) (o .0) (givenAt r) (givenAt next) (liveAt r) (liveAt next) on (rw (o .1) at (table-first phase)) (rw (o .1) at slot-to) (c .0) (o .2) (c .1),
+            overrun-feasible (r .plan) (w .order) a2 (r .t) (o .0) (givenAt r) (givenAt next) (liveAt r) (liveAt next) on (rw (o .1) at (table-first phase)) (rw (o .1) at slot-to) (c .0) (o .2) (c .1),
             λ t. absurd (phases-differ (sym (after true e) ∙ t)),
           )
 
@@ -251,34 +246,27 @@ module _ (r : Run) (w : Recorded r) (report : Report) (ok : Taken r report) wher
   -- the work of the HI row is the HI work left
   work-at : (k : ℕ) → k < r .plan .jobs → getD (hiWork r) k 0 ≡ hiRemaining (r .plan) (givenAt r) (liveAt r) k
   unfolding hiWork hiRemaining
-  work-at k l =
-      let x : k < length (jobsOf (r .plan)) = rw (length-take-le (r .plan .jobs) (r .plan .job) (js-fit r w)) l in
-      let fit = es-fit r w in
-      rw (getD-zip (λ j e. hiLeft j (live e) (e .given)) blankJob freshEntry (jobsOf (r .plan)) (r .job) k 0 x (omega arith), getD-take (r .plan .jobs) (r .plan .job) k blankJob l)
-
-  work-length : length (hiWork r) ≡ r .plan .jobs
-  unfolding hiWork
-  work-length =
-      let x = length-take-le (r .plan .jobs) (r .plan .job) (js-fit r w) in
-      length-zip (λ j e. hiLeft j (live e) (e .given)) (jobsOf (r .plan)) (r .job) (rw x (es-fit r w)) ∙ x
+  work-at k l = zipped-at (λ j e. hiLeft j (live e) (e .given)) (r .plan .job) (r .job) (r .plan .jobs) (js-fit r w) (es-fit r w) k blankJob freshEntry 0 l
 
   -- the current HI spare is above 0: one slot to spare
-  slot-to-spare : SpareAbove (r .plan) → Feasible (windowsOf (r .plan)) (r .t) (hiRemaining (r .plan) (givenAt r) (liveAt r))
+  slot-to-spare : Feasible (windowsOf (r .plan)) (r .t) (hiRemaining (r .plan) (givenAt r) (liveAt r))
       → above0 (currentHi r) ≡ true → InTime (windowsOf (r .plan)) (r .t + 1) (hiRemaining (r .plan) (givenAt r) (liveAt r))
   unfolding freshHi
-  slot-to-spare s2 now above =
+  slot-to-spare now above =
       let fresh : currentHi r ≡ current (r .plan) (r .t) (row (r .plan) (r .t) (hiWork r)) = ap (λ (zs : List ℤ). current (r .plan) (r .t) zs) (w .hi) in
+      let none-due : (k : ℕ) → k < r .plan .jobs → jobAt (r .plan) k .deadline ≤ r .t → getD (hiWork r) k 0 ≡ 0
+      = λ k l d. work-at k l ∙ met (windowsOf (r .plan)) (r .t) (hiRemaining (r .plan) (givenAt r) (liveAt r)) (now .0) k l d in
       in-time-mono (windowsOf (r .plan)) (r .t + 1) (λ k. getD (hiWork r) k 0) (hiRemaining (r .plan) (givenAt r) (liveAt r)) (λ k l. let e = work-at k l in omega arith)
-      (s2 (r .t) (hiWork r) (ok .more) work-length (λ k l d. work-at k l ∙ met (windowsOf (r .plan)) (r .t) (hiRemaining (r .plan) (givenAt r) (liveAt r)) (now .0) k l d) (rw fresh at above))
+      (above-exactly (r .plan) (w .order) (hiWork r) (r .t) (ok .more) none-due .0 (rw fresh at above))
 
-  goes-H : InOrder (r .plan) → SpareAbove (r .plan) → r .phase ≡ H → Feasible (windowsOf (r .plan)) (r .t) (hiRemaining (r .plan) (givenAt r) (liveAt r)) → Goes
-  goes-H order s2 phase now = (⊎-elim spared hurried (in-phase-H r phase), returned)
+  goes-H : r .phase ≡ H → Feasible (windowsOf (r .plan)) (r .t) (hiRemaining (r .plan) (givenAt r) (liveAt r)) → Goes
+  goes-H phase now = (⊎-elim spared hurried (in-phase-H r phase), returned)
     where
       Room : Type 0
       Room = Feasible (windowsOf (r .plan)) (r .t + 1) (hiRemaining (r .plan) (givenAt next) (liveAt next))
 
       spared : (above0 (currentHi r) ≡ true) × (chosen r ≡ earliest (r .plan) (ready r)) → Room
-      spared c = spare-feasible (r .plan) (r .t) (givenAt r) (givenAt next) (liveAt r) (liveAt next) now who (slot-to-spare s2 now (c .0)) slot-to
+      spared c = spare-feasible (r .plan) (r .t) (givenAt r) (givenAt next) (liveAt r) (liveAt next) now who (slot-to-spare now (c .0)) slot-to
 
       none-ready : ((k : ℕ) → JobOf (r .plan) k → isHi (jobNo (r .plan) k) ≡ true → Ready r k → ⊥) → NoHiReady (r .plan) (r .t) (liveAt r)
       none-ready none k l high alive released =
@@ -308,22 +296,22 @@ module _ (r : Run) (w : Recorded r) (report : Report) (ok : Taken r report) wher
       on-return : (b : Bool) → canReturn next ≡ b → next .phase ≡ T → OnTable (r .plan) (r .t + 1) (givenAt next) (liveAt next)
       on-return true e t =
           rw (next-plan r (chosen r) (report .kind), next-t r (chosen r) (report .kind)) at
-          (return-on-table next (rw (next-plan r (chosen r) (report .kind)) (js-fit r w)) next-fits (rw (next-plan r (chosen r) (report .kind)) (order .jobs .1)) e)
+          (return-on-table next (rw (next-plan r (chosen r) (report .kind)) (js-fit r w)) next-fits (rw (next-plan r (chosen r) (report .kind)) (w .order .jobs .1)) e)
       on-return false e t = absurd (phases-differ (sym (after false e) ∙ t))
 
       returned : next .phase ≡ T → OnTable (r .plan) (r .t + 1) (givenAt next) (liveAt next)
       returned = on-return (canReturn next) refl
 
   -- the invariant after the slot
-  pub kept-next : InOrder (r .plan) → A2 (r .plan) → SpareAbove (r .plan) → Kept (r .plan) r → Kept (r .plan) next
-  kept-next order a2 s2 kept =
+  pub kept-next : A2 (r .plan) → Kept (r .plan) r → Kept (r .plan) next
+  kept-next a2 kept =
       let goes = go (r .phase) refl in
       let t = next-t r (chosen r) (report .kind) in
       record { begun = rw t (begun-next (kept .begun)); room = rw t (goes .0); table = rw t (goes .1); expiry = rw t expiry-next }
     where
       go : (x : Phase) → r .phase ≡ x → Goes
-      go T e = goes-T order a2 e (kept .table e)
-      go H e = goes-H order s2 e (kept .room)
+      go T e = goes-T a2 e (kept .table e)
+      go H e = goes-H e (kept .room)
 
 -- ---- the start
 
