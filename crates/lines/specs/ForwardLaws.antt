@@ -2,7 +2,7 @@
 -- It holds of a field, of one reader after another, and of many of one kind; so it holds of every reader made of these.
 use mathlib.Core.Path.{_≡_, refl, sym, ap, _∙_}
 use mathlib.Core.Bool.{Bool, true, false, _&&_}
-use mathlib.Core.List.{List, _∷_}
+use mathlib.Core.List.{List}
 use mathlib.Core.Option.{Option, none, some}
 use Prim.Native.Nat.{ℕ, zero, suc, _+_, _-_, _≤_, _<_}
 use Prim.Native.String.{String}
@@ -14,7 +14,7 @@ use Rattle.answers.specs.declared.Answer.{Answer}
 use Rattle.answers.specs.declared.Answer.the-variants.{Form}
 use Rattle.answers.specs.Answer.{accepted, _unless_}
 use Rattle.words.specs.Words.{if_then_else_, _<?_, _=?_}
-use Rattle.lines.specs.Lines.{bytes, Cursor, Read, got, refused, Reader, give, onward, must, many, lineLength, begins, lineOn, orForm, valueIn, field, nothingAfter}
+use Rattle.lines.specs.Lines.{bytes, Cursor, Read, got, refused, Reader, onward, must, many, lineLength, begins, lineOn, orForm, valueIn, field, nothingAfter}
 
 -- s is the end of t from some place on
 pub record EndOf (s t : List ℕ) : Type 0 where
@@ -22,7 +22,7 @@ pub record EndOf (s t : List ℕ) : Type 0 where
   pub within : place ≤ length t
   pub same : s ≡ drop place t
 
-end-self : (t : List ℕ) → EndOf t t
+pub end-self : (t : List ℕ) → EndOf t t
 end-self t = record { place = 0; within = omega arith; same = refl }
 
 end-end : {r s t : List ℕ} → EndOf r s → EndOf s t → EndOf r t
@@ -48,9 +48,6 @@ Forward t (refused answer) = accepted answer ≡ false
 abbrev pub GoesForward : {A : Type 0} → Reader A → Type 0
 GoesForward reader = (here : Cursor) → Forward (here .text) (reader here)
 
-pub give-forward : {A : Type 0} (a : A) → GoesForward (give a)
-give-forward a here = end-self (here .text)
-
 end-of-end : {A : Type 0} {s t : List ℕ} (r : Read A) → EndOf s t → Forward s r → Forward t r
 end-of-end (got a here) f e = end-end e f
 end-of-end (refused answer) f e = e
@@ -71,7 +68,7 @@ unfolding many
 many-forward zero one f here = end-self (here .text)
 many-forward (suc k) one f here =
     onward-forward (here .text) (one here) _ (f here)
-    (λ first there. onward-forward (there .text) (many k one there) _ (many-forward k one f there) (λ others. give-forward (first ∷ others)))
+    (λ first there. onward-forward (there .text) (many k one there) _ (many-forward k one f there) (λ others onto. end-self (onto .text)))
 
 pub field-forward : {A : Type 0} (meaning : List ℕ → Option A) (key : String) → GoesForward (field meaning key)
 unfolding field valueIn accepted

@@ -1,12 +1,15 @@
 -- What the reading functions answer, by place: where a value stands in a text, and the number on a line.
 -- The text from place `at` on is `drop at text`; its next line starts at `lineAfter text at`.
-use Prim.Native.Nat.{ℕ, _+_, _-_}
+use Prim.Native.Nat.{ℕ, _+_, _-_, _≤_}
+use mathlib.Core.Path.{_≡_}
 use mathlib.Core.Bool.{_&&_}
 use mathlib.Core.List.{List}
 use mathlib.Core.Option.{Option, none, some}
 use lib.ListN.{length, take, drop}
+use Rattle.answers.specs.declared.Answer.{Answer}
+use Rattle.answers.specs.Answer.{accepted}
 use Rattle.words.specs.Words.{if_then_else_, _<?_}
-use Rattle.lines.specs.Lines.{Cursor, lineLength, begins, number, valueIn}
+use Rattle.lines.specs.Lines.{Cursor, Read, got, refused, lineLength, begins, number, valueIn}
 use Rattle.lines.specs.declared.reading.ValueAt.{ValueAt}
 use Rattle.lines.specs.declared.reading.ValueAt.the-variants.{At, Refused}
 use Rattle.lines.specs.declared.reading.Number.{Number}
@@ -44,3 +47,12 @@ numberAt text at key = numberThen (lineAfter text at) (numberRead (valueIn numbe
 -- a reader that stands at a place of a text, before line l
 abbrev pub standing : List ℕ → ℕ → ℕ → Cursor
 standing text at l = record { lineNo = l; text = drop at text }
+
+-- what is read where an answer, an array beside it and the next place are so, line m after it
+abbrev pub arrayRead : {A : Type 0} → List ℕ → ℕ → Answer → List A → ℕ → Read (List A)
+arrayRead text m answer array next = if accepted answer then got array (standing text next m) else refused answer
+
+-- an answer, an array and the next place, which lies in the text, say what is read
+pub record ArrayHere {A : Type 0} (text : List ℕ) (m : ℕ) (answer : Answer) (array : List A) (next : ℕ) (r : Read (List A)) : Type 0 where
+  pub read : arrayRead text m answer array next ≡ r
+  pub within : next ≤ length text

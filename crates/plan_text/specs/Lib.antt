@@ -4,3 +4,6 @@ pub mod RoundLaws
 pub mod WriteLaws
 pub mod RoundTrip
 pub mod DecidedLaws
+pub mod Reader
+pub mod ReaderLaws
+pub mod PrefixLaws

@@ -1,4 +1,6 @@
 // The plan text: reader and writer.
+pub mod reader;
+
 use answers::Answer;
 use plan::Plan;
 

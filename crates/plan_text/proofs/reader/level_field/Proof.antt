@@ -1,0 +1,61 @@
+-- `reader::level_field` meets its contract: the value that was found, and the level that it names.
+use mathlib.Core.Path.{sym, _∙_}
+use Rattle.plan_text.specs.ReaderLaws.{level-there, level-refused}
+use borrow.Author.Needs.{needs}
+use Rattle.plan_text.proofs.reader.level_field.Statement.{statement}
+use Rattle.plan_text.proofs.reader.level_field.Tie as tie
+
+slice-aggregate-find-value : tie.Need-slice-aggregate-find-value
+slice-aggregate-find-value c = search needs
+
+find-value-requires : tie.Need-find-value-requires
+find-value-requires c κs = search needs
+
+enum-known-start : tie.Need-enum-known-start
+enum-known-start c = search needs
+
+value-requires : tie.Need-value-requires
+value-requires c κs = search needs
+
+level-in-requires : tie.Need-level-in-requires
+level-in-requires c κs = search needs
+
+enum-known-level : tie.Need-enum-known-level
+enum-known-level c = search needs
+
+enum-told : tie.Need-enum-told
+enum-told c = search needs
+
+enum-told-2 : tie.Need-enum-told-2
+enum-told-2 c = search needs
+
+returns : tie.Need-returns
+returns c =
+    let n = c .before .before .before in
+    let s = n .before .before .before in
+    level-there _ _ _ _ _ _ _ (sym (s .start .given .1) ∙ s .before .before .find-value .ensures) (n .before .value .ensures) (sym (c .before .level .given .1) ∙ n .level-in .ensures)
+
+returns-2 : tie.Need-returns-2
+returns-2 c =
+    let n = c .before .before in
+    let s = n .before .before .before in
+    level-there _ _ _ _ _ _ _ (sym (s .start .given .1) ∙ s .before .before .find-value .ensures) (n .before .value .ensures) (sym (c .enum-told .given .1) ∙ n .level-in .ensures)
+
+returns-3 : tie.Need-returns-3
+returns-3 c = level-refused _ _ (sym (c .enum-told2 .given .1) ∙ c .before .before .find-value .ensures)
+
+pub level-field-spec : {M : Type 1} → statement M
+level-field-spec =
+    tie.close
+    (tie.spec
+    slice-aggregate-find-value
+    find-value-requires
+    enum-known-start
+    value-requires
+    level-in-requires
+    enum-known-level
+    enum-told
+    enum-told-2
+    returns
+    returns-2
+    returns-3)

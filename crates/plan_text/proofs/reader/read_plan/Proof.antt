@@ -1,0 +1,51 @@
+-- `reader::read_plan` meets its contract: the prefix is refused, more follows it, or it is the whole text.
+use mathlib.Core.Path.{sym, _∙_}
+use borrow.Author.Tests.{not-true, not-false}
+use Rattle.plan_text.specs.PrefixLaws.{only-refused, only-more, only-plan}
+use borrow.Author.Needs.{needs}
+use Rattle.plan_text.proofs.reader.read_plan.Statement.{statement}
+use Rattle.plan_text.proofs.reader.read_plan.Tie as tie
+
+plan-prefix-requires : tie.Need-plan-prefix-requires
+plan-prefix-requires c κs = search needs
+
+is-accepted-requires : tie.Need-is-accepted-requires
+is-accepted-requires c κs = search needs
+
+blank-plan-requires : tie.Need-blank-plan-requires
+blank-plan-requires c κs = search needs
+
+returns : tie.Need-returns
+returns c =
+    let a = c .before .before in
+    let p = a .before in
+    rw (c .blank-plan .ensures) (only-refused _ _ (p .plan-prefix .ensures) (sym (a .is-accepted .ensures) ∙ not-true _ (c .before .if1 .taken)))
+
+blank-plan-requires-2 : tie.Need-blank-plan-requires-2
+blank-plan-requires-2 c κs = search needs
+
+returns-2 : tie.Need-returns-2
+returns-2 c =
+    let l = c .before .before .before in
+    let a = l .before in
+    let p = a .before in
+    rw (c .blank-plan2 .ensures) (only-more _ _ (p .plan-prefix .ensures) (sym (a .is-accepted .ensures) ∙ not-false _ (l .if1 .left)) (c .before .if2 .taken))
+
+returns-3 : tie.Need-returns-3
+returns-3 c =
+    let l = c .before .before .before in
+    let a = l .before in
+    let p = a .before in
+    only-plan _ _ (p .plan-prefix .ensures) (sym (a .is-accepted .ensures) ∙ not-false _ (l .if1 .left)) (c .before .if2 .left)
+
+pub read-plan-spec : {M : Type 1} → statement M
+read-plan-spec =
+    tie.close
+    (tie.spec
+    plan-prefix-requires
+    is-accepted-requires
+    blank-plan-requires
+    returns
+    blank-plan-requires-2
+    returns-2
+    returns-3)

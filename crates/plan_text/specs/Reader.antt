@@ -1,0 +1,76 @@
+-- What the reader's functions answer, by place: the level on a line, a job, the jobs, the slots, and the plan at the start of a text.
+use Prim.Native.Nat.{ℕ, _+_, _-_, _≤_}
+use mathlib.Core.Path.{_≡_}
+use mathlib.Core.List.{List}
+use mathlib.Core.Option.{Option, none, some}
+use lib.ListN.{length, drop}
+use Rattle.words.specs.Words.{filled}
+use Rattle.answers.specs.declared.Answer.{Answer}
+use Rattle.answers.specs.declared.Answer.the-variants.{Accepted, Form}
+use Rattle.plan.specs.declared.Level.{Level}
+use Rattle.plan.specs.declared.Job.{Job}
+use Rattle.plan.specs.declared.Plan.{Plan}
+use Rattle.plan.specs.Limits.{maxSlots, maxJobs}
+use Rattle.plan.specs.Plan.{blankJob, blankPlan}
+use Rattle.lines.specs.Lines.{bytes, number, Read, got, refused, Reader, give, _>>=_, many, valueIn, field}
+use Rattle.lines.specs.Reading.{lineAfter, standing}
+use Rattle.plan_text.specs.Read.{levelIn, nextJob, nextPlan, startOf}
+use Rattle.plan_text.specs.declared.reader.PlanPrefix.{PlanPrefix}
+use Rattle.plan_text.specs.declared.reader.LevelName.{LevelName}
+use Rattle.plan_text.specs.declared.reader.LevelName.the-variants.{Is, Not}
+use Rattle.plan_text.specs.declared.reader.LevelAt.{LevelAt}
+use Rattle.plan_text.specs.declared.reader.LevelAt.the-variants as LevelAt
+use Rattle.plan_text.specs.declared.reader.JobAt.{JobAt}
+use Rattle.plan_text.specs.declared.reader.JobAt.the-variants as JobAt
+
+-- ---- a level
+
+abbrev pub levelRead : Option Level → LevelName
+levelRead (some level) = Is level
+levelRead none = Not
+
+-- a level and the place of the line after it
+abbrev pub levelThen : ℕ → LevelName → LevelAt
+levelThen next (Is level) = LevelAt.Got level next
+levelThen next Not = LevelAt.Bad
+
+-- the level on the line at `at`
+unfoldable pub levelAt : List ℕ → ℕ → LevelAt
+levelAt text at = levelThen (lineAfter text at) (levelRead (valueIn levelIn (bytes "level=") (drop at text)))
+
+-- ---- a job
+
+-- what is read where the answer is so, line m after it
+abbrev pub jobRead : List ℕ → ℕ → JobAt → Read Job
+jobRead text m (JobAt.Got job next) = got job (standing text next m)
+jobRead text m (JobAt.Bad l) = refused (Form l)
+
+abbrev pub jobNext : JobAt → ℕ
+jobNext (JobAt.Got job next) = next
+jobNext (JobAt.Bad l) = 0
+
+-- the answer is the next job of a reader at `at`, before line l
+pub record JobHere (text : List ℕ) (at l : ℕ) (r : JobAt) : Type 0 where
+  pub read : jobRead text (l + 5) r ≡ nextJob (standing text at l)
+  pub within : jobNext r ≤ length text
+
+-- ---- the plan at the start of a text
+
+-- the lines of a plan from its jobs on
+unfoldable pub nextLines : ℕ → ℕ → Reader Plan
+nextLines slots jobs = do
+  job ← many jobs nextJob
+  table ← many slots (field number "slot=")
+  give (record { slots = slots; jobs = jobs; job = filled maxJobs blankJob job; table = filled maxSlots 0 table })
+
+-- a refused text yields the blank plan
+abbrev pub refusedPrefix : Answer → PlanPrefix
+refusedPrefix answer = record { answer = answer; plan = blankPlan; next = 0; line = 0 }
+
+-- what was read of a text: where the rest begins, and its line
+abbrev pub prefixOf : List ℕ → Read Plan → PlanPrefix
+prefixOf text (got plan here) = record { answer = Accepted; plan = plan; next = length text - length (here .text); line = here .lineNo }
+prefixOf text (refused answer) = refusedPrefix answer
+
+unfoldable pub planPrefix : List ℕ → PlanPrefix
+planPrefix text = prefixOf text (nextPlan (startOf text))

@@ -1,0 +1,348 @@
+// The plan text read: its lines in their fixed order, judged line by line. Windows, budgets and the table are judged in acceptance.
+use super::PlanRead;
+use answers::Answer;
+use lines::reading::NumberAt;
+use lines::reading::ValueAt;
+use plan::Job;
+use plan::Level;
+use plan::Plan;
+ghost use mathlib.Core.Path.{_≡_};
+ghost use Prim.Native.Nat.{_+_, _*_, _≤_};
+ghost use lib.ListN.{length};
+ghost use Rattle.plan.specs.Limits.{maxSlots, maxJobs};
+ghost use Rattle.plan.specs.Plan.{blankJob};
+ghost use Rattle.lines.specs.Lines.{bytes, number, field, many};
+ghost use Rattle.lines.specs.Reading.{numberAt, standing, ArrayHere};
+ghost use Rattle.lines.specs.ManyLaws.{filledRead};
+ghost use Rattle.plan_text.specs.Read.{levelIn, nextJob, readPlan};
+ghost use Rattle.plan_text.specs.Reader.{levelRead, levelAt, JobHere, nextLines, refusedPrefix, prefixOf, planPrefix};
+
+enum LevelName {
+    Is(Level),
+    Not,
+}
+
+// The level on a line, and the first byte of the next line.
+enum LevelAt {
+    Got { level: Level, next: usize },
+    Bad,
+}
+
+// The job of five lines and the first byte of the line after them, or the line that is not of the form.
+enum JobAt {
+    Got { job: Job, next: usize },
+    Bad(u16),
+}
+
+// The plan at the start of a text, the first byte after its last line and the number of the line there;
+// or a refusal beside the blank plan, place 0 and line 0.
+pub struct PlanPrefix {
+    pub answer: Answer,
+    pub plan: Plan,
+    pub next: usize,
+    pub line: u16,
+}
+
+// The jobs and the first byte after their lines; beside a refusal the array is not used.
+struct JobsRead {
+    answer: Answer,
+    job: [Job; plan::JOBS],
+    next: usize,
+}
+
+// The slots and the first byte after their lines; beside a refusal the array is not used.
+struct SlotsRead {
+    answer: Answer,
+    table: [u16; plan::SLOTS],
+    next: usize,
+}
+
+fn level_in(s: &[u8]) -> LevelName
+    ensures { λ r. ⌜ r ≡ levelRead (levelIn (now (s .entry))) ⌝ }
+{
+    if lines::reading::same_bytes(s, b"HI") {
+        return LevelName::Is(Level::Hi);
+    }
+    if lines::reading::same_bytes(s, b"LO") {
+        return LevelName::Is(Level::Lo);
+    }
+    LevelName::Not
+}
+
+fn level_field(text: &[u8], at: usize) -> LevelAt
+    ensures { λ r. ⌜ r ≡ levelAt (now (text .entry)) at ⌝ }
+{
+    match lines::reading::find_value(text, at, b"level=") {
+        ValueAt::At { start, len, next } => match level_in(lines::reading::value(
+            text,
+            start,
+            len,
+        )) {
+            LevelName::Is(level) => LevelAt::Got { level, next },
+            LevelName::Not => LevelAt::Bad,
+        },
+        ValueAt::Refused => LevelAt::Bad,
+    }
+}
+
+fn release_field(text: &[u8], at: usize) -> NumberAt
+    ensures { λ r. ⌜ r ≡ numberAt (now (text .entry)) at (bytes "release=") ⌝ }
+{
+    lines::reading::number_field(text, at, b"release=")
+}
+
+fn deadline_field(text: &[u8], at: usize) -> NumberAt
+    ensures { λ r. ⌜ r ≡ numberAt (now (text .entry)) at (bytes "deadline=") ⌝ }
+{
+    lines::reading::number_field(text, at, b"deadline=")
+}
+
+fn lo_field(text: &[u8], at: usize) -> NumberAt
+    ensures { λ r. ⌜ r ≡ numberAt (now (text .entry)) at (bytes "lo=") ⌝ }
+{
+    lines::reading::number_field(text, at, b"lo=")
+}
+
+fn hi_field(text: &[u8], at: usize) -> NumberAt
+    ensures { λ r. ⌜ r ≡ numberAt (now (text .entry)) at (bytes "hi=") ⌝ }
+{
+    lines::reading::number_field(text, at, b"hi=")
+}
+
+// The job whose first line is at `at` and has the number `line`.
+fn read_job(text: &[u8], at: usize, line: u16) -> JobAt
+    requires { ⌜ line ≤ 1000 ⌝ }
+    ensures { λ r. ⌜ JobHere (now (text .entry)) at line r ⌝ }
+{
+    let LevelAt::Got { level, next: a } = level_field(text, at) else {
+        return JobAt::Bad(line);
+    };
+    let NumberAt::Got {
+        number: release,
+        next: b,
+    } = release_field(text, a)
+    else {
+        return JobAt::Bad(line + 1);
+    };
+    let NumberAt::Got {
+        number: deadline,
+        next: c,
+    } = deadline_field(text, b)
+    else {
+        return JobAt::Bad(line + 2);
+    };
+    let NumberAt::Got {
+        number: lo,
+        next: d,
+    } = lo_field(text, c)
+    else {
+        return JobAt::Bad(line + 3);
+    };
+    let NumberAt::Got { number: hi, next } = hi_field(text, d) else {
+        return JobAt::Bad(line + 4);
+    };
+    JobAt::Got {
+        job: Job {
+            level,
+            release,
+            deadline,
+            lo,
+            hi,
+        },
+        next,
+    }
+}
+
+// The jobs, the first of whose lines is at `at` and has the number `line`.
+fn read_jobs(text: &[u8], at: usize, count: usize, line: u16) -> JobsRead
+    requires { ⌜ count ≤ maxJobs ⌝ }
+    requires { ⌜ line ≤ 100 ⌝ }
+    requires { ⌜ at ≤ length (now text) ⌝ }
+    ensures { λ r. ⌜ ArrayHere (now (text .entry)) (line + 5 * count) (r .answer) (r .job) (r .next) (filledRead maxJobs blankJob (many count nextJob (standing (now (text .entry)) at line))) ⌝ }
+{
+    let blank = plan::blank_job();
+    let mut job = [blank; plan::JOBS];
+    let mut next = at;
+    let mut l = line;
+    let mut i = 0;
+    while i < count {
+        match read_job(text, next, l) {
+            JobAt::Got {
+                job: j,
+                next: after,
+            } => {
+                job[i] = j;
+                next = after;
+            }
+            JobAt::Bad(bad) => {
+                return JobsRead {
+                    answer: Answer::Form(bad),
+                    job,
+                    next: 0,
+                };
+            }
+        }
+        l += 5;
+        i += 1;
+    }
+    JobsRead {
+        answer: Answer::Accepted,
+        job,
+        next,
+    }
+}
+
+fn slot_field(text: &[u8], at: usize) -> NumberAt
+    ensures { λ r. ⌜ r ≡ numberAt (now (text .entry)) at (bytes "slot=") ⌝ }
+{
+    lines::reading::number_field(text, at, b"slot=")
+}
+
+// The slots, the first of whose lines is at `at` and has the number `line`.
+fn read_slots(text: &[u8], at: usize, count: usize, line: u16) -> SlotsRead
+    requires { ⌜ count ≤ maxSlots ⌝ }
+    requires { ⌜ line ≤ 1000 ⌝ }
+    requires { ⌜ at ≤ length (now text) ⌝ }
+    ensures { λ r. ⌜ ArrayHere (now (text .entry)) (line + count) (r .answer) (r .table) (r .next) (filledRead maxSlots 0 (many count (field number "slot=") (standing (now (text .entry)) at line))) ⌝ }
+{
+    let mut table = [0u16; plan::SLOTS];
+    let mut next = at;
+    let mut l = line;
+    let mut i = 0;
+    while i < count {
+        let NumberAt::Got {
+            number: entry,
+            next: after,
+        } = slot_field(text, next)
+        else {
+            return SlotsRead {
+                answer: Answer::Form(l),
+                table,
+                next: 0,
+            };
+        };
+        table[i] = entry;
+        next = after;
+        l += 1;
+        i += 1;
+    }
+    SlotsRead {
+        answer: Answer::Accepted,
+        table,
+        next,
+    }
+}
+
+fn refused(answer: Answer) -> PlanPrefix
+    ensures { λ r. ⌜ r ≡ refusedPrefix answer ⌝ }
+{
+    let blank = plan::blank_plan();
+    PlanPrefix {
+        answer,
+        plan: blank,
+        next: 0,
+        line: 0,
+    }
+}
+
+// The lines of the jobs and of the slots, the first of which is line 3 at `at`.
+fn read_lines(text: &[u8], at: usize, slots: u16, jobs: u16) -> PlanPrefix
+    requires { ⌜ slots ≤ maxSlots ⌝ }
+    requires { ⌜ jobs ≤ maxJobs ⌝ }
+    requires { ⌜ at ≤ length (now text) ⌝ }
+    ensures { λ r. ⌜ r ≡ prefixOf (now (text .entry)) (nextLines slots jobs (standing (now (text .entry)) at 3)) ⌝ }
+{
+    let j = read_jobs(text, at, jobs as usize, 3);
+    let job = j.job;
+    let answer = j.answer;
+    if !answers::is_accepted(answer) {
+        return refused(answer);
+    }
+    let line = 3 + 5 * jobs;
+    let s = read_slots(text, j.next, slots as usize, line);
+    let table = s.table;
+    let answer = s.answer;
+    if !answers::is_accepted(answer) {
+        return refused(answer);
+    }
+    PlanPrefix {
+        answer: Answer::Accepted,
+        plan: Plan {
+            slots,
+            jobs,
+            job,
+            table,
+        },
+        next: s.next,
+        line: line + slots,
+    }
+}
+
+fn slots_field(text: &[u8]) -> NumberAt
+    ensures { λ r. ⌜ r ≡ numberAt (now (text .entry)) 0 (bytes "slots=") ⌝ }
+{
+    lines::reading::number_field(text, 0, b"slots=")
+}
+
+fn jobs_field(text: &[u8], at: usize) -> NumberAt
+    ensures { λ r. ⌜ r ≡ numberAt (now (text .entry)) at (bytes "jobs=") ⌝ }
+{
+    lines::reading::number_field(text, at, b"jobs=")
+}
+
+// The plan at the start of the text, whatever follows it.
+pub fn plan_prefix(text: &[u8]) -> PlanPrefix
+    ensures { λ r. ⌜ r ≡ planPrefix (now (text .entry)) ⌝ }
+{
+    let NumberAt::Got {
+        number: slots,
+        next: second,
+    } = slots_field(text)
+    else {
+        return refused(Answer::Form(1));
+    };
+    let limit = plan::slot_limit(slots);
+    if !answers::is_accepted(limit) {
+        return refused(limit);
+    }
+    let NumberAt::Got {
+        number: jobs,
+        next: third,
+    } = jobs_field(text, second)
+    else {
+        return refused(Answer::Form(2));
+    };
+    let limit = plan::job_limit(jobs);
+    if !answers::is_accepted(limit) {
+        return refused(limit);
+    }
+    read_lines(text, third, slots, jobs)
+}
+
+// The plan that the text is, with nothing after it.
+pub fn read_plan(text: &[u8]) -> PlanRead
+    ensures { λ r. ⌜ r ≡ readPlan (now (text .entry)) ⌝ }
+{
+    let p = plan_prefix(text);
+    let answer = p.answer;
+    if !answers::is_accepted(answer) {
+        let blank = plan::blank_plan();
+        return PlanRead {
+            answer,
+            plan: blank,
+        };
+    }
+    let line = p.line;
+    if p.next < text.len() {
+        let blank = plan::blank_plan();
+        return PlanRead {
+            answer: Answer::Form(line),
+            plan: blank,
+        };
+    }
+    let plan = p.plan;
+    PlanRead {
+        answer: Answer::Accepted,
+        plan,
+    }
+}
