@@ -34,7 +34,7 @@ use Rattle.executive.specs.Choice.{chosen}
 use Rattle.executive.specs.Step.{standingAfter, ranOn, nextRun}
 use Rattle.promises.specs.Demands.{Demand3a, Demand3b, JobOf, FinishedInTime, HadWholeBudget, Reached, started, stepped, Event, event, jobRun, jobsRun, phaseAt, firstEnd}
 use Rattle.promises.specs.NextLaws.{next-plan, reportedEntry, entryAfter, leftAlone, expired-given, expired-stands, reported-given, reported-alive, reported-holds, live-fewer}
-use Rattle.promises.specs.StepLaws.{Taken, taken, Recorded, own-slot, none-fits-idle, next-run, start-run, start-accepted, accepted-well-formed}
+use Rattle.promises.specs.RecordLaws.{Taken, taken, Recorded, own-slot, none-fits-idle, next-run, start-run, start-accepted, accepted-well-formed}
 use Rattle.promises.specs.History.{reached-plan, reached-recorded, reached-t, reached-given}
 use Rattle.promises.specs.Kept.{Kept, entryAt, givenAt, liveAt, rule-at, live-open, next-at, given-next, slot-to, chosen-at, table-first, kept-start, kept-next, fresh}
 

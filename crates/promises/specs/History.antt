@@ -2,12 +2,13 @@
 use Prim.Native.Nat.{ℕ, suc, _+_, _<_}
 use native.Mathlib.Omega.{arith}
 use mathlib.Core.Path.{_≡_, refl, ap, _∙_}
+use mathlib.Core.Logic.{_↔_}
 use mathlib.Core.Bool.{Bool, true, false}
 use mathlib.Core.List.{List, [], _∷_, _++_}
 use lib.ListN.{length, length-append}
 use Rattle.plan.specs.declared.Job.{Job}
 use Rattle.plan.specs.declared.Plan.{Plan}
-use Rattle.answers.specs.declared.Answer.the-variants.{Accepted}
+use Rattle.answers.specs.declared.Answer.the-variants.{Accepted, Incoherent}
 use Rattle.words.specs.Words.{if_then_else_, _=?_}
 use Rattle.plan.specs.Plan.{jobNo, naming}
 use Rattle.executive.specs.declared.Standing.{Standing}
@@ -16,11 +17,12 @@ use Rattle.executive.specs.declared.Run.{Run}
 use Rattle.executive.specs.declared.Report.{Report}
 use Rattle.executive.specs.Run.{entryNo}
 use Rattle.executive.specs.Coherent.{coherent}
-use Rattle.executive.specs.Choice.{chosen}
+use Rattle.executive.specs.Choice.{chosen, choose, howMany, ready}
 use Rattle.executive.specs.Step.{standingAfter, nextRun, kindFits, step}
 use Rattle.promises.specs.Demands.{JobOf, Event, event, Reached, started, stepped, jobRun, jobsRun, standsAfter, firstEnd, told, Demand2}
+use Rattle.promises.specs.Refused.{coherent-not-refused-10}
 use Rattle.promises.specs.NextLaws.{next-plan, next-t, given-after, stands-after, leftAlone}
-use Rattle.promises.specs.StepLaws.{taken, taken-accepted, next-run, Recorded, recorded-coherent, own-live, next-entry, next-recorded, start-accepted, start-run, accepted-well-formed, start-recorded, fresh-at}
+use Rattle.promises.specs.RecordLaws.{taken, taken-accepted, choose-accepted, next-run, Recorded, recorded-coherent, own-live, next-entry, next-recorded, start-accepted, start-run, accepted-well-formed, start-recorded, fresh-at}
 
 -- ---- the record
 
@@ -37,9 +39,20 @@ reached-recorded {p} (stepped {r = r} report q e) = rw (next-run r report e) (ne
 pub reached-coherent : {p : Plan} {h : List Event} {r : Run} → Reached p h r → coherent r ≡ true
 reached-coherent {r = r} q = recorded-coherent r (reached-recorded q)
 
--- and while t < N it accepts exactly the reports with slot t and a kind that fits
-pub reached-accepts : {p : Plan} {h : List Event} {r : Run} → Reached p h r → r .t < r .plan .slots → (report : Report) → report .slot ≡ r .t → kindFits (chosen r) (report .kind) ≡ true → step r report .answer ≡ Accepted
-reached-accepts {r = r} q more report same fits = taken-accepted r report (record { whole = reached-coherent q; more = more; slot = same; fits = fits })
+-- so no call on it is refused 10
+pub reached-not-incoherent : {p : Plan} {h : List Event} {r : Run} → Reached p h r → (report : Report) → (choose r .answer ≡ Incoherent → ⊥) × (step r report .answer ≡ Incoherent → ⊥)
+reached-not-incoherent {r = r} q report = coherent-not-refused-10 r report (reached-coherent q)
+
+-- while t < N its choice is accepted, and it accepts exactly the reports with slot t and a kind that fits what is chosen
+pub reached-choice : {p : Plan} {h : List Event} {r : Run} → Reached p h r → r .t < r .plan .slots → choose r ≡ record { answer = Accepted; slot = chosen r; ready = howMany (ready r) }
+reached-choice {r = r} q more = choose-accepted r (reached-coherent q) more
+
+pub reached-accepts : {p : Plan} {h : List Event} {r : Run} → Reached p h r → r .t < r .plan .slots
+    → (report : Report) → (step r report .answer ≡ Accepted) ↔ ((report .slot ≡ r .t) × (kindFits (chosen r) (report .kind) ≡ true))
+reached-accepts {r = r} q more report = (
+  λ e. let w = taken r report e in (w .slot, w .fits),
+  λ w. taken-accepted r report (record { whole = reached-coherent q; more = more; slot = w .0; fits = w .1 }),
+)
 
 -- t is the number of reports
 pub reached-t : {p : Plan} {h : List Event} {r : Run} → Reached p h r → r .t ≡ length h

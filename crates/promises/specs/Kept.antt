@@ -39,9 +39,9 @@ use Rattle.executive.specs.Coherent.{standingHolds}
 use Rattle.executive.specs.Choice.{chosen, earliest, ready, readyHi}
 use Rattle.executive.specs.Step.{pastLo, overrun, settled, everySettled, canReturn, phaseAfter, nextRun}
 use Rattle.promises.specs.Demands.{JobOf, jobRun}
-use Rattle.promises.specs.ChoiceLaws.{Ready, in-phase-T, in-phase-H, earliest-ready-hi}
+use Rattle.promises.specs.ChosenLaws.{Ready, in-phase-T, in-phase-H, earliest-ready-hi}
 use Rattle.promises.specs.NextLaws.{next-plan, next-t, next-phase, next-length, entryAfter, given-after, live-after, low-after, live-fewer}
-use Rattle.promises.specs.StepLaws.{Taken, Recorded, js-fit, es-fit, chosen-is-ready, own-slot, next-entry}
+use Rattle.promises.specs.RecordLaws.{Taken, Recorded, js-fit, es-fit, chosen-is-ready, own-slot, next-entry}
 
 -- the entry at place k: the slots that job has been given, and whether it is live
 abbrev pub entryAt : Run → ℕ → Entry

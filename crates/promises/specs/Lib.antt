@@ -3,10 +3,11 @@ pub mod Sums
 pub mod Demands
 pub mod Refused
 pub mod Shams
+pub mod Texts
 pub mod General
-pub mod ChoiceLaws
+pub mod ChosenLaws
 pub mod NextLaws
-pub mod StepLaws
+pub mod RecordLaws
 pub mod History
 pub mod Kept
 pub mod Deadlines

@@ -1,11 +1,14 @@
--- Demand 1, its second half: a refused call hands back what it was given, or the blank, and writes nothing. That every call is answered is in the functions' contracts: none has a condition.
+-- Demand 1 over the definitions: how calls on a run are refused, and that a refused call hands back what it was given, or the blank, and writes nothing.
+-- That every call is answered stands in the functions' contracts: none has a condition.
 use Prim.Native.Nat.{ℕ}
-use mathlib.Core.Path.{_≡_, refl}
+use native.Mathlib.Omega.{arith}
+use mathlib.Core.Path.{_≡_, refl, sym, _∙_}
 use mathlib.Core.Bool.{Bool, true, false}
 use mathlib.Core.List.{List}
 use lib.ListN.{length}
 use Rattle.plan.specs.declared.Plan.{Plan}
-use Rattle.answers.specs.declared.Answer.the-variants.{Accepted}
+use Rattle.answers.specs.declared.Answer.the-variants.{Accepted, Incoherent, Over, OtherSlot, WrongKind}
+use Rattle.words.specs.Words.{if_then_else_, _<?_, _=?_}
 use Rattle.answers.specs.Answer.{accepted}
 use Rattle.plan.specs.Plan.{blankPlan}
 use Rattle.acceptance.specs.Acceptance.{acceptance}
@@ -17,8 +20,60 @@ use Rattle.executive.specs.declared.Run.{Run}
 use Rattle.executive.specs.declared.Slot.{Slot}
 use Rattle.executive.specs.declared.Report.{Report}
 use Rattle.executive.specs.Run.{start, blankRun}
-use Rattle.executive.specs.Choice.{choose, canGoOn}
-use Rattle.executive.specs.Step.{step, reportAnswer}
+use Rattle.executive.specs.Coherent.{coherent}
+use Rattle.executive.specs.Choice.{chosen, choose, canGoOn}
+use Rattle.executive.specs.Step.{kindFits, step, reportAnswer}
+
+-- ---- the answers of calls on a run: 10, 11, 12, 13 in that order, at place 0, t, t, t
+
+pub choice-answers : (r : Run) → choose r .answer ≡ (if coherent r then if r .t <? r .plan .slots then Accepted else Over (r .t) else Incoherent)
+unfolding choose canGoOn accepted
+choice-answers r = go (coherent r) refl (r .t <? r .plan .slots) refl
+  where
+    go : (a : Bool) → coherent r ≡ a → (b : Bool) → (r .t <? r .plan .slots) ≡ b → choose r .answer ≡ (if a then if b then Accepted else Over (r .t) else Incoherent)
+    go false e b f = rw e
+    go true e false f = rw (e, f)
+    go true e true f = rw (e, f)
+
+pub step-answers : (r : Run) (report : Report)
+    → step r report .answer
+    ≡ (if coherent r then
+    if r .t <? r .plan .slots then
+    if report .slot =? r .t then
+    if kindFits (chosen r) (report .kind) then Accepted
+    else WrongKind (r .t)
+    else OtherSlot (r .t)
+    else Over (r .t)
+    else Incoherent)
+unfolding step reportAnswer canGoOn accepted
+step-answers r report = go (coherent r) refl (r .t <? r .plan .slots) refl (report .slot =? r .t) refl (kindFits (chosen r) (report .kind)) refl
+  where
+    go : (a : Bool) → coherent r ≡ a → (b : Bool) → (r .t <? r .plan .slots) ≡ b → (c : Bool) → (report .slot =? r .t) ≡ c → (d : Bool) → kindFits (chosen r) (report .kind) ≡ d
+        → step r report .answer ≡ (if a then if b then if c then if d then Accepted else WrongKind (r .t) else OtherSlot (r .t) else Over (r .t) else Incoherent)
+    go false e b f c g d h = rw e
+    go true e false f c g d h = rw (e, f)
+    go true e true f false g d h = rw (e, f, g)
+    go true e true f true g false h = rw (e, f, g, h)
+    go true e true f true g true h = rw (e, f, g, h)
+
+-- of a coherent run no call is refused 10
+pub coherent-not-refused-10 : (r : Run) (report : Report) → coherent r ≡ true → (choose r .answer ≡ Incoherent → ⊥) × (step r report .answer ≡ Incoherent → ⊥)
+coherent-not-refused-10 r report whole = (
+  λ e. choice (r .t <? r .plan .slots) (sym (rw whole at (choice-answers r)) ∙ e),
+  λ e. report-of (r .t <? r .plan .slots) (report .slot =? r .t) (kindFits (chosen r) (report .kind)) (sym (rw whole at (step-answers r report)) ∙ e),
+)
+  where
+    choice : (b : Bool) → (if b then Accepted else Over (r .t)) ≡ Incoherent → ⊥
+    choice true e = let z : _≡_ {A = ℕ} 0 1 = cc in omega arith
+    choice false e = let z : _≡_ {A = ℕ} 0 1 = cc in omega arith
+
+    report-of : (b c d : Bool) → (if b then if c then if d then Accepted else WrongKind (r .t) else OtherSlot (r .t) else Over (r .t)) ≡ Incoherent → ⊥
+    report-of false c d e = let z : _≡_ {A = ℕ} 0 1 = cc in omega arith
+    report-of true false d e = let z : _≡_ {A = ℕ} 0 1 = cc in omega arith
+    report-of true true false e = let z : _≡_ {A = ℕ} 0 1 = cc in omega arith
+    report-of true true true e = let z : _≡_ {A = ℕ} 0 1 = cc in omega arith
+
+-- ---- what a refused call hands back
 
 -- a refused step hands back the same run
 pub refused-step : (r : Run) (report : Report) → (step r report .answer ≡ Accepted → ⊥) → step r report .run ≡ r

@@ -1,5 +1,5 @@
 -- How tight the promises are: no second result meets one, and each sham version of the product is shut out by a theorem of its name.
-use Prim.Native.Nat.{ℕ, _≤_}
+use Prim.Native.Nat.{ℕ, _≤_, _<_}
 use native.Mathlib.Omega.{arith}
 use mathlib.Core.Path.{_≡_, sym, ap, _∙_}
 use mathlib.Core.List.{List, [], _∷_}
@@ -7,16 +7,19 @@ use lib.ListN.{getD}
 use Rattle.plan.specs.declared.Plan.{Plan}
 use Rattle.answers.specs.declared.Answer.{Answer}
 use Rattle.answers.specs.declared.Answer.the-variants.{Accepted, Overdrawn}
+use Rattle.plan.specs.Plan.{jobNo, naming}
 use Rattle.acceptance.specs.Analysis.{analysis}
 use Rattle.executive.specs.declared.Entry.{Entry}
 use Rattle.executive.specs.declared.Run.{Run}
 use Rattle.executive.specs.declared.Slot.{Slot}
 use Rattle.executive.specs.declared.Kind.the-variants.{More}
 use Rattle.executive.specs.declared.Report.{Report}
-use Rattle.executive.specs.Run.{start, freshEntry}
+use Rattle.executive.specs.Run.{start, entryNo, freshEntry, freshHi, freshLo}
 use Rattle.executive.specs.Choice.{choose}
 use Rattle.executive.specs.Step.{step}
 use Rattle.promises.specs.Compute.{everything}
+use Rattle.promises.specs.Demands.{JobOf, Event, Reached, jobsRun, told}
+use Rattle.promises.specs.History.{demand-2}
 use Rattle.promises.specs.Sums.{A, B, after, goneOn}
 
 -- a promise that names its result as a definition's value has one result
@@ -73,4 +76,27 @@ only-advances-the-clock same =
     let after-1 : Run = after A (More ∷ []) in
     let later : step after-1 (record { slot = 1; kind = More }) .run .job ≡ after-1 .job = same after-1 (record { slot = 1; kind = More }) (omega arith) in
     let w : _≡_ {A = ℕ} 1 0 = ap (λ (es : List Entry). getD es 0 freshEntry .given) later in
+    omega arith
+
+-- ---- whole sequences of reports
+
+-- made-up slots given: a run with others than its history's is never reached
+pub makes-up-slots : (p : Plan) (h : List Event) (r : Run) → Reached p h r → (k : ℕ) → JobOf p k → (entryNo r k .given ≡ naming k (jobsRun h) → ⊥) → ⊥
+makes-up-slots p h r q k l other = other (demand-2 p h r q .2 k l)
+
+-- made-up standings: so is one with a standing that its history does not tell
+pub makes-up-standings : (p : Plan) (h : List Event) (r : Run) → Reached p h r → (k : ℕ) → JobOf p k → (entryNo r k .standing ≡ told (jobNo p k) k 0 0 h → ⊥) → ⊥
+makes-up-standings p h r q k l other = other (demand-2 p h r q .3 k l)
+
+-- made-up spares: so is one with rows that are not the fresh ones
+pub makes-up-spares : (p : Plan) (h : List Event) (r : Run) → Reached p h r → ((r .hi ≡ freshHi r) × (r .lo ≡ freshLo r) → ⊥) → ⊥
+makes-up-spares p h r q other = let w = demand-2 p h r q in other (w .4, w .5)
+
+-- an executive that only advances the clock, over any sequence: after t accepted reports a job has every slot that was its own, the later ones too
+pub forgets-later-slots : (p : Plan) (h : List Event) (r : Run) → Reached p h r → (k : ℕ) → JobOf p k → (e : Event) (later : List Event) → h ≡ e ∷ later → 0 < naming k (jobsRun later)
+    → (entryNo r k .given ≡ naming k (jobsRun (e ∷ [])) → ⊥)
+unfolding naming jobsRun
+forgets-later-slots p h r q k l e later whole some forgot =
+    let given = demand-2 p h r q .2 k l in
+    let all : naming k (jobsRun h) ≡ naming k (jobsRun (e ∷ later)) = ap (λ (x : List Event). naming k (jobsRun x)) whole in
     omega arith

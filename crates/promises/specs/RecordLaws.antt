@@ -28,11 +28,11 @@ use Rattle.executive.specs.declared.Kind.the-variants.{None}
 use Rattle.executive.specs.declared.Report.{Report}
 use Rattle.executive.specs.Run.{live, entryNo, freshEntry, freshHi, freshLo, hiWork, loWork, start, newRun}
 use Rattle.executive.specs.Coherent.{standingHolds, entriesHold, sameSpare, sameRow, coherent}
-use Rattle.executive.specs.Choice.{chosen, canGoOn}
+use Rattle.executive.specs.Choice.{chosen, choose, canGoOn, howMany, ready}
 use Rattle.executive.specs.Step.{nextRun, kindFits, reportAnswer, step}
 use Rattle.promises.specs.Demands.{Sized, JobOf, jobRun}
 use Rattle.promises.specs.General.{joined, is-accepted, zip-every}
-use Rattle.promises.specs.ChoiceLaws.{Ready, chosen-ready}
+use Rattle.promises.specs.ChosenLaws.{Ready, chosen-ready}
 use Rattle.promises.specs.NextLaws.{next-plan, next-t, next-hi, next-lo, next-length, entryAfter, entry-next, holds-after}
 
 -- ---- an accepted step
@@ -75,6 +75,11 @@ taken r report h =
 pub taken-accepted : (r : Run) (report : Report) → Taken r report → step r report .answer ≡ Accepted
 unfolding step reportAnswer canGoOn accepted
 taken-accepted r report w = rw (w .whole, lt-ltb (r .t) (r .plan .slots) (w .more), eq-eqb (report .slot) (r .t) (w .slot), w .fits)
+
+-- the choice of a coherent run that is not over is accepted
+pub choose-accepted : (r : Run) → coherent r ≡ true → r .t < r .plan .slots → choose r ≡ record { answer = Accepted; slot = chosen r; ready = howMany (ready r) }
+unfolding choose canGoOn accepted
+choose-accepted r whole more = rw (whole, lt-ltb (r .t) (r .plan .slots) more)
 
 -- ---- the record of a run that comes from a start
 
