@@ -2,7 +2,13 @@
 // `line_from` and `part_from` have plain parameters, so their callers need no walk. What a line means is in lines and above.
 ghost use mathlib.Core.Path.{_≡_};
 ghost use lib.ListN.{take, drop};
+ghost use Rattle.lines.specs.Reading.{valueAt, numberAt};
 ghost use Rattle.line_reader.specs.Line.{lineAt};
+use lines::reading::Number;
+use lines::reading::NumberAt;
+use lines::reading::ValueAt;
+use lines::reading::begins_with;
+use lines::reading::read_number;
 
 pub struct LineReader<'a> {
     pub text: &'a [u8],
@@ -70,4 +76,41 @@ pub fn line_from(text: &[u8], at: usize) -> Line
     ensures { λ r. ⌜ r ≡ lineAt (now (text .entry)) at ⌝ }
 {
     look(reader_at(text, at))
+}
+
+// A part of the caller's text, by way of the reader at its start.
+pub fn part_from<'a>(text: &'a [u8], start: usize, len: usize) -> &'a [u8]
+    ensures { λ r. ⌜ now r ≡ take len (drop start (now (text .entry))) ⌝ }
+{
+    part(reader_at(text, start), start, len)
+}
+
+// Where the value of the line at `at` stands, as lines::reading::find_value says it, by way of the reader.
+pub fn find_value(text: &[u8], at: usize, key: &[u8]) -> ValueAt
+    ensures { λ r. ⌜ r ≡ valueAt (now (text .entry)) at (now (key .entry)) ⌝ }
+{
+    let Line::Has { len, next } = line_from(text, at) else {
+        return ValueAt::Refused;
+    };
+    if !begins_with(part_from(text, at, len), key) {
+        return ValueAt::Refused;
+    }
+    ValueAt::At {
+        start: at + key.len(),
+        len: len - key.len(),
+        next,
+    }
+}
+
+// The number on the line at `at`, which has the key, as lines::reading::number_field says it, by way of the reader.
+pub fn number_field(text: &[u8], at: usize, key: &[u8]) -> NumberAt
+    ensures { λ r. ⌜ r ≡ numberAt (now (text .entry)) at (now (key .entry)) ⌝ }
+{
+    match find_value(text, at, key) {
+        ValueAt::At { start, len, next } => match read_number(part_from(text, start, len)) {
+            Number::Is(number) => NumberAt::Got { number, next },
+            Number::Not => NumberAt::Bad,
+        },
+        ValueAt::Refused => NumberAt::Bad,
+    }
 }

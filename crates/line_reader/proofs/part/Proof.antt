@@ -49,7 +49,6 @@ use Rattle.line_reader.proofs.part.Key.{name as #line-reader·part}
 use Rattle.line_reader.proofs.part as value
 use Rattle.line_reader.proofs.part.Statement as stated
 use Rattle.line_reader.proofs.part.Code as code
-
 use Rattle.line_reader.specs.declared.LineReader.{LineReader}
 use Rattle.line_reader.proofs.LineReader as T
 use Rattle.line_reader.proofs.LineReader.Laws as T′
