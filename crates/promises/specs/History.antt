@@ -1,8 +1,8 @@
 -- Demand 2: over every sequence of accepted reports the run is what its history says. Proved by induction on the sequence from the laws of one step.
 use Prim.Native.Nat.{ℕ, suc, _+_, _<_}
 use native.Mathlib.Omega.{arith}
-use mathlib.Core.Path.{_≡_, refl, ap, _∙_}
-use mathlib.Core.Logic.{_↔_}
+use mathlib.Core.Path.{_≡_, refl, sym, ap, subst, _∙_}
+use mathlib.Core.Logic.{_↔_, ⊎-elim}
 use mathlib.Core.Bool.{Bool, true, false}
 use mathlib.Core.List.{List, [], _∷_, _++_}
 use lib.ListN.{length, length-append}
@@ -14,13 +14,17 @@ use Rattle.plan.specs.Plan.{jobNo, naming}
 use Rattle.executive.specs.declared.Standing.{Standing}
 use Rattle.executive.specs.declared.Standing.the-variants.{Waiting, Finished, Cut, Dropped}
 use Rattle.executive.specs.declared.Run.{Run}
+use Rattle.executive.specs.declared.Slot.{Slot}
+use Rattle.executive.specs.declared.Kind.{Kind}
+use Rattle.executive.specs.declared.Kind.the-variants.{More, None}
 use Rattle.executive.specs.declared.Report.{Report}
+use Rattle.executive.specs.declared.Stepped.{Stepped}
 use Rattle.executive.specs.Run.{entryNo}
 use Rattle.executive.specs.Coherent.{coherent}
 use Rattle.executive.specs.Choice.{chosen, choose, howMany, ready}
 use Rattle.executive.specs.Step.{standingAfter, nextRun, kindFits, step}
 use Rattle.promises.specs.Demands.{JobOf, Event, event, Reached, started, stepped, jobRun, jobsRun, standsAfter, firstEnd, told, Demand2}
-use Rattle.promises.specs.Refused.{coherent-not-refused-10}
+use Rattle.promises.specs.Refused.{coherent-not-refused-10, taken-or-same}
 use Rattle.promises.specs.NextLaws.{next-plan, next-t, given-after, stands-after, leftAlone}
 use Rattle.promises.specs.RecordLaws.{taken, taken-accepted, choose-accepted, next-run, Recorded, recorded-coherent, own-live, next-entry, next-recorded, start-accepted, start-run, accepted-well-formed, start-recorded, fresh-at}
 
@@ -155,3 +159,48 @@ demand-2 p h r q =
       w .hi,
       w .lo,
     )
+
+-- ---- any sequence of reports
+
+-- the run after some reports, whatever was answered
+unfoldable pub fed : Run → List Report → Run
+fed r [] = r
+fed r (report ∷ reports) = fed (step r report .run) reports
+
+-- the same by another step
+unfoldable pub fedBy : (Run → Report → Stepped) → Run → List Report → Run
+fedBy mine r [] = r
+fedBy mine r (report ∷ reports) = fedBy mine (mine r report .run) reports
+
+-- an accepted report makes the history longer, a refused one leaves the run as it was: so every sequence leads to a run that comes from the start
+pub every-sequence : {p : Plan} (reports : List Report) {h : List Event} {r : Run} → Reached p h r → (all : List Event) × Reached p all (fed r reports)
+unfolding fed
+every-sequence [] {h} q = (h, q)
+every-sequence {p} (report ∷ reports) {h} {r} q =
+    ⊎-elim
+    (λ e. every-sequence reports (stepped report q e))
+    (λ same. every-sequence reports (subst (λ (x : Run). Reached p h x) (sym same) q))
+    (taken-or-same r report)
+
+-- an executive whose step is the definition's has the definition's run after every sequence
+pub same-sequence : (mine : Run → Report → Stepped) → ((r : Run) (report : Report) → mine r report ≡ step r report)
+    → (reports : List Report) (r : Run) → fedBy mine r reports ≡ fed r reports
+unfolding fed fedBy
+same-sequence mine same [] r = refl
+same-sequence mine same (report ∷ reports) r = rw (same r report) (same-sequence mine same reports (step r report .run))
+
+-- a kind that fits a slot
+abbrev fitting : Slot → Kind
+fitting (Slot.Job k) = More
+fitting Slot.Idle = None
+
+fitting-fits : (slot : Slot) → kindFits slot (fitting slot) ≡ true
+unfolding kindFits
+fitting-fits (Slot.Job k) = refl
+fitting-fits Slot.Idle = refl
+
+-- no run is stuck before the last border: some report is accepted
+pub never-stuck : {p : Plan} {h : List Event} {r : Run} → Reached p h r → r .t < r .plan .slots → (report : Report) × (step r report .answer ≡ Accepted)
+never-stuck {r = r} q more =
+    let report : Report = record { slot = r .t; kind = fitting (chosen r) } in
+    (report, reached-accepts q more report .1 (refl, fitting-fits (chosen r)))

@@ -10,4 +10,5 @@ pub mod NextLaws
 pub mod RecordLaws
 pub mod History
 pub mod Kept
+pub mod Ends
 pub mod Deadlines

@@ -241,6 +241,14 @@ live-fewer t hi given (Finished b) h w = absurd (false≢true w)
 live-fewer t hi given (Cut b) h w = absurd (false≢true w)
 live-fewer t hi given (Dropped b) h w = absurd (false≢true w)
 
+-- and no job more
+pub given-within : (t hi given : ℕ) (s : Standing) → standingHolds t hi given s ≡ true → given ≤ hi
+unfolding standingHolds
+given-within t hi given Waiting h = omega (arith, ltb-true given hi h)
+given-within t hi given (Finished b) h = leb-true given hi (both-true (given ≤? hi) (b ≤? t) h .0)
+given-within t hi given (Cut b) h = leb-true given hi (both-true (given ≤? hi) (b ≤? t) h .0)
+given-within t hi given (Dropped b) h = leb-true given hi (both-true (given ≤? hi) (b ≤? t) h .0)
+
 -- an ended one at most hi, marked at t or before
 ended-holds : (t hi given b : ℕ) → given ≤ hi → b ≤ t → ((given ≤? hi) && (b ≤? t)) ≡ true
 ended-holds t hi given b h l = joined (given ≤? hi) (b ≤? t) (le-leb given hi h) (le-leb b t l)

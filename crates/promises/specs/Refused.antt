@@ -3,6 +3,7 @@
 use Prim.Native.Nat.{ℕ}
 use native.Mathlib.Omega.{arith}
 use mathlib.Core.Path.{_≡_, refl, sym, _∙_}
+use mathlib.Core.Logic.{_⊎_, inl, inr, ⊎-elim}
 use mathlib.Core.Bool.{Bool, true, false}
 use mathlib.Core.List.{List}
 use lib.ListN.{length}
@@ -75,14 +76,18 @@ coherent-not-refused-10 r report whole = (
 
 -- ---- what a refused call hands back
 
+-- a step is accepted, or hands back the same run
+pub taken-or-same : (r : Run) (report : Report) → (step r report .answer ≡ Accepted) ⊎ (step r report .run ≡ r)
+unfolding step
+taken-or-same r report = go (accepted (reportAnswer r report)) refl
+  where
+    go : (b : Bool) → accepted (reportAnswer r report) ≡ b → (step r report .answer ≡ Accepted) ⊎ (step r report .run ≡ r)
+    go true e = inl (rw e)
+    go false e = inr (rw e)
+
 -- a refused step hands back the same run
 pub refused-step : (r : Run) (report : Report) → (step r report .answer ≡ Accepted → ⊥) → step r report .run ≡ r
-unfolding step
-refused-step r report no-go = go (accepted (reportAnswer r report)) refl
-  where
-    go : (b : Bool) → accepted (reportAnswer r report) ≡ b → step r report .run ≡ r
-    go true e = absurd (no-go (rw e))
-    go false e = rw e
+refused-step r report no-go = ⊎-elim (λ e. absurd (no-go e)) (λ same. same) (taken-or-same r report)
 
 -- a refused start gives the blank run
 pub refused-start : (p : Plan) → (start p .answer ≡ Accepted → ⊥) → start p .run ≡ blankRun
