@@ -14,18 +14,13 @@ use Rattle.answers.specs.declared.Answer.the-variants.{Accepted}
 use Rattle.answers.specs.Answer.{accepted}
 use Rattle.words.specs.Words.{filled}
 use Rattle.lines.specs.Lines.{Cursor, Read, got, refused, Reader, give, onward, many}
-use Rattle.lines.specs.Reading.{standing, ArrayHere}
+use Rattle.lines.specs.Reading.{standing, filledRead, ArrayHere}
 
 module _ {A : Type 0} where
   -- the things that were read before, in front
   abbrev pub after : List A → Read (List A) → Read (List A)
   after front (got xs here) = got (front ++ xs) here
   after front (refused answer) = refused answer
-
-  -- things read into an array of `size`, `blank` beyond them
-  abbrev pub filledRead : ℕ → A → Read (List A) → Read (List A)
-  filledRead size blank (got xs here) = got (filled size blank xs) here
-  filledRead size blank (refused answer) = refused answer
 
   after-none : (r : Read (List A)) → r ≡ after [] r
   after-none (got xs here) = refl

@@ -8,7 +8,7 @@ use mathlib.Core.Option.{Option, none, some}
 use lib.ListN.{length, take, drop}
 use Rattle.answers.specs.declared.Answer.{Answer}
 use Rattle.answers.specs.Answer.{accepted}
-use Rattle.words.specs.Words.{if_then_else_, _<?_}
+use Rattle.words.specs.Words.{if_then_else_, _<?_, filled}
 use Rattle.lines.specs.Lines.{Cursor, Read, got, refused, lineLength, begins, number, valueIn}
 use Rattle.lines.specs.declared.reading.ValueAt.{ValueAt}
 use Rattle.lines.specs.declared.reading.ValueAt.the-variants.{At, Refused}
@@ -47,6 +47,11 @@ numberAt text at key = numberThen (lineAfter text at) (numberRead (valueIn numbe
 -- a reader that stands at a place of a text, before line l
 abbrev pub standing : List ℕ → ℕ → ℕ → Cursor
 standing text at l = record { lineNo = l; text = drop at text }
+
+-- things read into an array of `size`, `blank` beyond them
+abbrev pub filledRead : {A : Type 0} → ℕ → A → Read (List A) → Read (List A)
+filledRead size blank (got xs here) = got (filled size blank xs) here
+filledRead size blank (refused answer) = refused answer
 
 -- what is read where an answer, an array beside it and the next place are so, line m after it
 abbrev pub arrayRead : {A : Type 0} → List ℕ → ℕ → Answer → List A → ℕ → Read (List A)

@@ -23,7 +23,7 @@ pub enum Number {
 
 // The number on a line, and the first byte of the next line.
 pub enum NumberAt {
-    Got { number: u16, next: usize },
+    Got(u16, usize),
     Bad,
 }
 
@@ -151,7 +151,7 @@ pub fn number_field(text: &[u8], at: usize, key: &[u8]) -> NumberAt
 {
     match find_value(text, at, key) {
         ValueAt::At { start, len, next } => match read_number(value(text, start, len)) {
-            Number::Is(number) => NumberAt::Got { number, next },
+            Number::Is(number) => NumberAt::Got(number, next),
             Number::Not => NumberAt::Bad,
         },
         ValueAt::Refused => NumberAt::Bad,

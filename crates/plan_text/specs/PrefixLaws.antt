@@ -16,12 +16,12 @@ use Rattle.plan.specs.Limits.{maxSlots, maxJobs, oneTo}
 use Rattle.plan.specs.Plan.{blankJob, blankPlan}
 use Rattle.lines.specs.declared.reading.NumberAt.the-variants.{Got, Bad}
 use Rattle.lines.specs.Lines.{bytes, number, Cursor, Read, got, refused, Reader, give, onward, must, many, field, nothingAfter}
-use Rattle.lines.specs.Reading.{numberAt, standing, arrayRead, ArrayHere}
+use Rattle.lines.specs.Reading.{numberAt, standing, filledRead, arrayRead, ArrayHere}
 use Rattle.lines.specs.ReadingLaws.{number-got, number-bad}
-use Rattle.lines.specs.ManyLaws.{filledRead, onward-filled}
+use Rattle.lines.specs.ManyLaws.{onward-filled}
 use Rattle.lines.specs.ForwardLaws.{end-self, end-place, Forward, GoesForward, onward-forward, must-forward, many-forward, field-forward}
 use Rattle.plan_text.specs.Read.{levelIn, nextJob, nextPlan, startOf, onlyPlan, planRead, readPlan}
-use Rattle.plan_text.specs.Reader.{nextLines, refusedPrefix, prefixOf, planPrefix}
+use Rattle.plan_text.specs.Reader.{nextLines, refusedPrefix, refusedRead, prefixOf, planPrefix}
 use Rattle.plan_text.specs.declared.PlanRead.{PlanRead}
 use Rattle.plan_text.specs.declared.reader.PlanPrefix.{PlanPrefix}
 
@@ -163,7 +163,7 @@ prefix-refused t r e refuses = read (nextPlan (startOf t)) e
 -- ---- the plan and nothing after
 
 module _ (t : List ℕ) (r : PlanPrefix) (e : r ≡ planPrefix t) where
-  pub only-refused : accepted (r .answer) ≡ false → record { answer = r .answer; plan = blankPlan } ≡ readPlan t
+  pub only-refused : accepted (r .answer) ≡ false → refusedRead (r .answer) ≡ readPlan t
   unfolding readPlan onlyPlan
   only-refused a = rw (prefix-refused t r e a)
 
@@ -171,7 +171,7 @@ module _ (t : List ℕ) (r : PlanPrefix) (e : r ≡ planPrefix t) where
     rest : length (drop (r .next) t) ≡ length t - r .next
     rest = length-drop (r .next) t
 
-    pub only-more : r .next < length t → record { answer = Form (r .line); plan = blankPlan } ≡ readPlan t
+    pub only-more : r .next < length t → refusedRead (Form (r .line)) ≡ readPlan t
     unfolding readPlan onlyPlan nothingAfter accepted
     only-more h =
         let n : (length (drop (r .next) t) =? 0) ≡ false = ne-eqb (length (drop (r .next) t)) 0 (λ z. omega (arith, rest)) in

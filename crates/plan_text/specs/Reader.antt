@@ -1,5 +1,5 @@
 -- What the reader's functions answer, by place: the level on a line, a job, the jobs, the slots, and the plan at the start of a text.
-use Prim.Native.Nat.{ℕ, _+_, _-_, _≤_}
+use Prim.Native.Nat.{ℕ, _+_, _-_, _*_, _≤_}
 use mathlib.Core.Path.{_≡_}
 use mathlib.Core.List.{List}
 use mathlib.Core.Option.{Option, none, some}
@@ -13,9 +13,12 @@ use Rattle.plan.specs.declared.Plan.{Plan}
 use Rattle.plan.specs.Limits.{maxSlots, maxJobs}
 use Rattle.plan.specs.Plan.{blankJob, blankPlan}
 use Rattle.lines.specs.Lines.{bytes, number, Read, got, refused, Reader, give, _>>=_, many, valueIn, field}
-use Rattle.lines.specs.Reading.{lineAfter, standing}
+use Rattle.lines.specs.Reading.{lineAfter, standing, filledRead, ArrayHere}
 use Rattle.plan_text.specs.Read.{levelIn, nextJob, nextPlan, startOf}
+use Rattle.plan_text.specs.declared.PlanRead.{PlanRead}
 use Rattle.plan_text.specs.declared.reader.PlanPrefix.{PlanPrefix}
+use Rattle.plan_text.specs.declared.reader.JobsRead.{JobsRead}
+use Rattle.plan_text.specs.declared.reader.SlotsRead.{SlotsRead}
 use Rattle.plan_text.specs.declared.reader.LevelName.{LevelName}
 use Rattle.plan_text.specs.declared.reader.LevelName.the-variants.{Is, Not}
 use Rattle.plan_text.specs.declared.reader.LevelAt.{LevelAt}
@@ -54,6 +57,15 @@ pub record JobHere (text : List ℕ) (at l : ℕ) (r : JobAt) : Type 0 where
   pub read : jobRead text (l + 5) r ≡ nextJob (standing text at l)
   pub within : jobNext r ≤ length text
 
+-- ---- the jobs and the slots
+
+-- the answer is the next jobs of a reader at `at`, before line l, in an array
+abbrev pub JobsHere : List ℕ → ℕ → ℕ → ℕ → JobsRead → Type 0
+JobsHere text at l count r = ArrayHere text (l + 5 * count) (r .answer) (r .job) (r .next) (filledRead maxJobs blankJob (many count nextJob (standing text at l)))
+
+abbrev pub SlotsHere : List ℕ → ℕ → ℕ → ℕ → SlotsRead → Type 0
+SlotsHere text at l count r = ArrayHere text (l + count) (r .answer) (r .table) (r .next) (filledRead maxSlots 0 (many count (field number "slot=") (standing text at l)))
+
 -- ---- the plan at the start of a text
 
 -- the lines of a plan from its jobs on
@@ -66,6 +78,9 @@ nextLines slots jobs = do
 -- a refused text yields the blank plan
 abbrev pub refusedPrefix : Answer → PlanPrefix
 refusedPrefix answer = record { answer = answer; plan = blankPlan; next = 0; line = 0 }
+
+abbrev pub refusedRead : Answer → PlanRead
+refusedRead answer = record { answer = answer; plan = blankPlan }
 
 -- what was read of a text: where the rest begins, and its line
 abbrev pub prefixOf : List ℕ → Read Plan → PlanPrefix

@@ -7,15 +7,13 @@ use plan::Job;
 use plan::Level;
 use plan::Plan;
 ghost use mathlib.Core.Path.{_≡_};
-ghost use Prim.Native.Nat.{_+_, _*_, _≤_};
+ghost use Prim.Native.Nat.{_≤_};
 ghost use lib.ListN.{length};
 ghost use Rattle.plan.specs.Limits.{maxSlots, maxJobs};
-ghost use Rattle.plan.specs.Plan.{blankJob};
-ghost use Rattle.lines.specs.Lines.{bytes, number, field, many};
-ghost use Rattle.lines.specs.Reading.{numberAt, standing, ArrayHere};
-ghost use Rattle.lines.specs.ManyLaws.{filledRead};
-ghost use Rattle.plan_text.specs.Read.{levelIn, nextJob, readPlan};
-ghost use Rattle.plan_text.specs.Reader.{levelRead, levelAt, JobHere, nextLines, refusedPrefix, prefixOf, planPrefix};
+ghost use Rattle.lines.specs.Lines.{bytes};
+ghost use Rattle.lines.specs.Reading.{numberAt, standing};
+ghost use Rattle.plan_text.specs.Read.{levelIn, readPlan};
+ghost use Rattle.plan_text.specs.Reader.{levelRead, levelAt, JobHere, JobsHere, SlotsHere, nextLines, refusedPrefix, refusedRead, prefixOf, planPrefix};
 
 enum LevelName {
     Is(Level),
@@ -24,13 +22,13 @@ enum LevelName {
 
 // The level on a line, and the first byte of the next line.
 enum LevelAt {
-    Got { level: Level, next: usize },
+    Got(Level, usize),
     Bad,
 }
 
 // The job of five lines and the first byte of the line after them, or the line that is not of the form.
 enum JobAt {
-    Got { job: Job, next: usize },
+    Got(Job, usize),
     Bad(u16),
 }
 
@@ -78,7 +76,7 @@ fn level_field(text: &[u8], at: usize) -> LevelAt
             start,
             len,
         )) {
-            LevelName::Is(level) => LevelAt::Got { level, next },
+            LevelName::Is(level) => LevelAt::Got(level, next),
             LevelName::Not => LevelAt::Bad,
         },
         ValueAt::Refused => LevelAt::Bad,
@@ -114,43 +112,29 @@ fn read_job(text: &[u8], at: usize, line: u16) -> JobAt
     requires { ⌜ line ≤ 1000 ⌝ }
     ensures { λ r. ⌜ JobHere (now (text .entry)) at line r ⌝ }
 {
-    let LevelAt::Got { level, next: a } = level_field(text, at) else {
+    let LevelAt::Got(level, a) = level_field(text, at) else {
         return JobAt::Bad(line);
     };
-    let NumberAt::Got {
-        number: release,
-        next: b,
-    } = release_field(text, a)
-    else {
+    let NumberAt::Got(release, b) = release_field(text, a) else {
         return JobAt::Bad(line + 1);
     };
-    let NumberAt::Got {
-        number: deadline,
-        next: c,
-    } = deadline_field(text, b)
-    else {
+    let NumberAt::Got(deadline, c) = deadline_field(text, b) else {
         return JobAt::Bad(line + 2);
     };
-    let NumberAt::Got {
-        number: lo,
-        next: d,
-    } = lo_field(text, c)
-    else {
+    let NumberAt::Got(lo, d) = lo_field(text, c) else {
         return JobAt::Bad(line + 3);
     };
-    let NumberAt::Got { number: hi, next } = hi_field(text, d) else {
+    let NumberAt::Got(hi, next) = hi_field(text, d) else {
         return JobAt::Bad(line + 4);
     };
-    JobAt::Got {
-        job: Job {
-            level,
-            release,
-            deadline,
-            lo,
-            hi,
-        },
-        next,
-    }
+    let job = Job {
+        level,
+        release,
+        deadline,
+        lo,
+        hi,
+    };
+    JobAt::Got(job, next)
 }
 
 // The jobs, the first of whose lines is at `at` and has the number `line`.
@@ -158,7 +142,7 @@ fn read_jobs(text: &[u8], at: usize, count: usize, line: u16) -> JobsRead
     requires { ⌜ count ≤ maxJobs ⌝ }
     requires { ⌜ line ≤ 100 ⌝ }
     requires { ⌜ at ≤ length (now text) ⌝ }
-    ensures { λ r. ⌜ ArrayHere (now (text .entry)) (line + 5 * count) (r .answer) (r .job) (r .next) (filledRead maxJobs blankJob (many count nextJob (standing (now (text .entry)) at line))) ⌝ }
+    ensures { λ r. ⌜ JobsHere (now (text .entry)) at line count r ⌝ }
 {
     let blank = plan::blank_job();
     let mut job = [blank; plan::JOBS];
@@ -167,10 +151,7 @@ fn read_jobs(text: &[u8], at: usize, count: usize, line: u16) -> JobsRead
     let mut i = 0;
     while i < count {
         match read_job(text, next, l) {
-            JobAt::Got {
-                job: j,
-                next: after,
-            } => {
+            JobAt::Got(j, after) => {
                 job[i] = j;
                 next = after;
             }
@@ -203,18 +184,14 @@ fn read_slots(text: &[u8], at: usize, count: usize, line: u16) -> SlotsRead
     requires { ⌜ count ≤ maxSlots ⌝ }
     requires { ⌜ line ≤ 1000 ⌝ }
     requires { ⌜ at ≤ length (now text) ⌝ }
-    ensures { λ r. ⌜ ArrayHere (now (text .entry)) (line + count) (r .answer) (r .table) (r .next) (filledRead maxSlots 0 (many count (field number "slot=") (standing (now (text .entry)) at line))) ⌝ }
+    ensures { λ r. ⌜ SlotsHere (now (text .entry)) at line count r ⌝ }
 {
     let mut table = [0u16; plan::SLOTS];
     let mut next = at;
     let mut l = line;
     let mut i = 0;
     while i < count {
-        let NumberAt::Got {
-            number: entry,
-            next: after,
-        } = slot_field(text, next)
-        else {
+        let NumberAt::Got(entry, after) = slot_field(text, next) else {
             return SlotsRead {
                 answer: Answer::Form(l),
                 table,
@@ -294,22 +271,14 @@ fn jobs_field(text: &[u8], at: usize) -> NumberAt
 pub fn plan_prefix(text: &[u8]) -> PlanPrefix
     ensures { λ r. ⌜ r ≡ planPrefix (now (text .entry)) ⌝ }
 {
-    let NumberAt::Got {
-        number: slots,
-        next: second,
-    } = slots_field(text)
-    else {
+    let NumberAt::Got(slots, second) = slots_field(text) else {
         return refused(Answer::Form(1));
     };
     let limit = plan::slot_limit(slots);
     if !answers::is_accepted(limit) {
         return refused(limit);
     }
-    let NumberAt::Got {
-        number: jobs,
-        next: third,
-    } = jobs_field(text, second)
-    else {
+    let NumberAt::Got(jobs, third) = jobs_field(text, second) else {
         return refused(Answer::Form(2));
     };
     let limit = plan::job_limit(jobs);
@@ -319,6 +288,16 @@ pub fn plan_prefix(text: &[u8]) -> PlanPrefix
     read_lines(text, third, slots, jobs)
 }
 
+fn no_plan(answer: Answer) -> PlanRead
+    ensures { λ r. ⌜ r ≡ refusedRead answer ⌝ }
+{
+    let blank = plan::blank_plan();
+    PlanRead {
+        answer,
+        plan: blank,
+    }
+}
+
 // The plan that the text is, with nothing after it.
 pub fn read_plan(text: &[u8]) -> PlanRead
     ensures { λ r. ⌜ r ≡ readPlan (now (text .entry)) ⌝ }
@@ -326,19 +305,10 @@ pub fn read_plan(text: &[u8]) -> PlanRead
     let p = plan_prefix(text);
     let answer = p.answer;
     if !answers::is_accepted(answer) {
-        let blank = plan::blank_plan();
-        return PlanRead {
-            answer,
-            plan: blank,
-        };
+        return no_plan(answer);
     }
-    let line = p.line;
     if p.next < text.len() {
-        let blank = plan::blank_plan();
-        return PlanRead {
-            answer: Answer::Form(line),
-            plan: blank,
-        };
+        return no_plan(Answer::Form(p.line));
     }
     let plan = p.plan;
     PlanRead {

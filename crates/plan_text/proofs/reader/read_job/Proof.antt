@@ -48,8 +48,8 @@ enum-known-release c = search needs
 enum-told-2 : tie.Need-enum-told-2
 enum-told-2 c = search needs
 
-add-t16 : tie.Need-add-t16
-add-t16 c = search needs
+add-t17 : tie.Need-add-t17
+add-t17 c = search needs
 
 returns-2 : tie.Need-returns-2
 returns-2 c =
@@ -65,8 +65,8 @@ enum-known-deadline c = search needs
 enum-told-3 : tie.Need-enum-told-3
 enum-told-3 c = search needs
 
-add-t18 : tie.Need-add-t18
-add-t18 c = search needs
+add-t19 : tie.Need-add-t19
+add-t19 c = search needs
 
 returns-3 : tie.Need-returns-3
 returns-3 c =
@@ -83,8 +83,8 @@ enum-known-lo c = search needs
 enum-told-4 : tie.Need-enum-told-4
 enum-told-4 c = search needs
 
-add-t20 : tie.Need-add-t20
-add-t20 c = search needs
+add-t21 : tie.Need-add-t21
+add-t21 c = search needs
 
 returns-4 : tie.Need-returns-4
 returns-4 c =
@@ -102,8 +102,8 @@ enum-known-hi c = search needs
 enum-told-5 : tie.Need-enum-told-5
 enum-told-5 c = search needs
 
-add-t22 : tie.Need-add-t22
-add-t22 c = search needs
+add-t23 : tie.Need-add-t23
+add-t23 c = search needs
 
 returns-5 : tie.Need-returns-5
 returns-5 c =
@@ -132,21 +132,21 @@ read-job-spec =
     release-field-requires
     enum-known-release
     enum-told-2
-    add-t16
+    add-t17
     returns-2
     deadline-field-requires
     enum-known-deadline
     enum-told-3
-    add-t18
+    add-t19
     returns-3
     lo-field-requires
     enum-known-lo
     enum-told-4
-    add-t20
+    add-t21
     returns-4
     hi-field-requires
     enum-known-hi
     enum-told-5
-    add-t22
+    add-t23
     returns-5
     returns-6)

@@ -12,31 +12,30 @@ plan-prefix-requires c κs = search needs
 is-accepted-requires : tie.Need-is-accepted-requires
 is-accepted-requires c κs = search needs
 
-blank-plan-requires : tie.Need-blank-plan-requires
-blank-plan-requires c κs = search needs
+no-plan-requires : tie.Need-no-plan-requires
+no-plan-requires c κs = search needs
 
 returns : tie.Need-returns
 returns c =
     let a = c .before .before in
-    let p = a .before in
-    rw (c .blank-plan .ensures) (only-refused _ _ (p .plan-prefix .ensures) (sym (a .is-accepted .ensures) ∙ not-true _ (c .before .if1 .taken)))
+    c .no-plan .ensures
+    ∙ only-refused _ _ (a .before .plan-prefix .ensures) (sym (a .is-accepted .ensures) ∙ not-true _ (c .before .if1 .taken))
 
-blank-plan-requires-2 : tie.Need-blank-plan-requires-2
-blank-plan-requires-2 c κs = search needs
+no-plan-requires-2 : tie.Need-no-plan-requires-2
+no-plan-requires-2 c κs = search needs
 
 returns-2 : tie.Need-returns-2
 returns-2 c =
     let l = c .before .before .before in
     let a = l .before in
-    let p = a .before in
-    rw (c .blank-plan2 .ensures) (only-more _ _ (p .plan-prefix .ensures) (sym (a .is-accepted .ensures) ∙ not-false _ (l .if1 .left)) (c .before .if2 .taken))
+    c .no-plan2 .ensures
+    ∙ only-more _ _ (a .before .plan-prefix .ensures) (sym (a .is-accepted .ensures) ∙ not-false _ (l .if1 .left)) (c .before .if2 .taken)
 
 returns-3 : tie.Need-returns-3
 returns-3 c =
     let l = c .before .before .before in
     let a = l .before in
-    let p = a .before in
-    only-plan _ _ (p .plan-prefix .ensures) (sym (a .is-accepted .ensures) ∙ not-false _ (l .if1 .left)) (c .before .if2 .left)
+    only-plan _ _ (a .before .plan-prefix .ensures) (sym (a .is-accepted .ensures) ∙ not-false _ (l .if1 .left)) (c .before .if2 .left)
 
 pub read-plan-spec : {M : Type 1} → statement M
 read-plan-spec =
@@ -44,8 +43,8 @@ read-plan-spec =
     (tie.spec
     plan-prefix-requires
     is-accepted-requires
-    blank-plan-requires
+    no-plan-requires
     returns
-    blank-plan-requires-2
+    no-plan-requires-2
     returns-2
     returns-3)
