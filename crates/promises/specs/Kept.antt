@@ -39,6 +39,7 @@ use Rattle.executive.specs.Coherent.{standingHolds}
 use Rattle.executive.specs.Choice.{chosen, earliest, ready, readyHi}
 use Rattle.executive.specs.Step.{pastLo, overrun, settled, everySettled, canReturn, phaseAfter, nextRun}
 use Rattle.promises.specs.Demands.{JobOf, jobRun}
+use Rattle.promises.specs.EarliestLaws.{leads-deadline}
 use Rattle.promises.specs.ChosenLaws.{Ready, in-phase-T, in-phase-H, earliest-ready-hi}
 use Rattle.promises.specs.NextLaws.{next-plan, next-t, next-phase, next-length, entryAfter, given-after, live-after, low-after, live-fewer}
 use Rattle.promises.specs.RecordLaws.{Taken, Recorded, js-fit, es-fit, chosen-is-ready, own-slot, next-entry}
@@ -268,9 +269,9 @@ module _ (r : Run) (w : Recorded r) (report : Report) (ok : Taken r report) wher
       spared : (above0 (currentHi r) ≡ true) × (chosen r ≡ earliest (r .plan) (ready r)) → Room
       spared c = spare-feasible (r .plan) (r .t) (givenAt r) (givenAt next) (liveAt r) (liveAt next) now who (slot-to-spare now (c .0)) slot-to
 
-      none-ready : ((k : ℕ) → JobOf (r .plan) k → isHi (jobNo (r .plan) k) ≡ true → Ready r k → ⊥) → NoHiReady (r .plan) (r .t) (liveAt r)
+      none-ready : ((k : ℕ) → JobOf (r .plan) k → (isHi (jobNo (r .plan) k) ≡ true) × Ready r k → ⊥) → NoHiReady (r .plan) (r .t) (liveAt r)
       none-ready none k l high alive released =
-          none (suc k) (job-of-place (r .plan) k l) (rw (number-place k) high) (rw (number-place k) alive, rw (number-place k) released)
+          none (suc k) (job-of-place (r .plan) k l) (rw (number-place k) high, (rw (number-place k) alive, rw (number-place k) released))
 
       hurried : chosen r ≡ earliest (r .plan) (readyHi r) → Room
       hurried e =
@@ -278,8 +279,8 @@ module _ (r : Run) (w : Recorded r) (report : Report) (ok : Taken r report) wher
           (λ c. nobody-feasible (r .plan) (r .t) (givenAt r) (givenAt next) (liveAt r) (liveAt next) now who (none-ready (c .1)) slot-to)
           (λ c. let one = c .2 .0 in
           let m : c .0 ≡ suc (c .0 - 1) = omega arith in
-          first (c .0 - 1) (ap jobRun (e ∙ c .1) ∙ m) (c .3)
-          (λ k l high alive released. rw (number-place k) at (c .5 (suc k) (job-of-place (r .plan) k l) (rw (number-place k) high) (rw (number-place k) alive, rw (number-place k) released))))
+          first (c .0 - 1) (ap jobRun (e ∙ c .1) ∙ m) (c .3 .0)
+          (λ k l high alive released. rw (number-place k) at (leads-deadline (r .plan) (c .0) (suc k) (c .4 (suc k) (job-of-place (r .plan) k l) (rw (number-place k) high, (rw (number-place k) alive, rw (number-place k) released))))))
           (earliest-ready-hi r (js-fit r w) (es-fit r w))
         where
           first : (j : ℕ) → who ≡ suc j → isHi (jobAt (r .plan) j) ≡ true

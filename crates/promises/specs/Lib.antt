@@ -5,6 +5,7 @@ pub mod Refused
 pub mod Shams
 pub mod Texts
 pub mod General
+pub mod EarliestLaws
 pub mod ChosenLaws
 pub mod NextLaws
 pub mod RecordLaws
