@@ -3,3 +3,5 @@ pub mod Analysis
 pub mod Rising
 pub mod RisingLaws
 pub mod OverfullLaws
+pub mod Along
+pub mod AlongLaws
