@@ -95,7 +95,7 @@ length-insert x (y ∷ ys) = go (x <? y) (x =? y) (length-insert x ys)
     go false true h = omega arith
     go false false h = omega arith
 
-length-rising : (xs : List ℕ) → length (rising xs) ≤ length xs
+pub length-rising : (xs : List ℕ) → length (rising xs) ≤ length xs
 unfolding rising
 length-rising [] = omega arith
 length-rising (x ∷ xs) = omega (arith, length-insert x (rising xs), length-rising xs)
@@ -106,13 +106,17 @@ few-deadlines p =
 
 -- ---- the next number above a border
 
+-- x where it is above m and before `next`, else `next`
+unfoldable pub nearer : ℕ → ℕ → ℕ → ℕ → ℕ
+nearer m beyond x next = min (if m <? x then x else beyond) next
+
 -- the least of the numbers above m, `beyond` where there is none
 unfoldable pub nextAbove : ℕ → ℕ → List ℕ → ℕ
 nextAbove m beyond [] = beyond
-nextAbove m beyond (x ∷ xs) = min (if m <? x then x else beyond) (nextAbove m beyond xs)
+nextAbove m beyond (x ∷ xs) = nearer m beyond x (nextAbove m beyond xs)
 
 insert-next : (m beyond x : ℕ) (ys : List ℕ) → nextAbove m beyond (insert x ys) ≡ min (if m <? x then x else beyond) (nextAbove m beyond ys)
-unfolding insert nextAbove
+unfolding insert nextAbove nearer
 insert-next m beyond x [] = refl
 insert-next m beyond x (y ∷ ys) =
     let next = nextAbove m beyond ys in
@@ -123,7 +127,7 @@ insert-next m beyond x (y ∷ ys) =
     (λ q. rw (le-ltb x y p, ne-eqb x y q, insert-next m beyond x ys) (omega arith)))
 
 pub rising-next : (m beyond : ℕ) (xs : List ℕ) → nextAbove m beyond (rising xs) ≡ nextAbove m beyond xs
-unfolding rising nextAbove
+unfolding rising nextAbove nearer
 rising-next m beyond [] = refl
 rising-next m beyond (x ∷ xs) = insert-next m beyond x (rising xs) ∙ ap (λ k. min (if m <? x then x else beyond) k) (rising-next m beyond xs)
 
@@ -142,7 +146,7 @@ above-all m b [] top h r = refl
 above-all m b (y ∷ ys) top h r = rw (lt-ltb m y (omega (arith, r .0)), above-all m y ys top (omega (arith, r .0)) (r .1))
 
 pub next-over : (m b : ℕ) (ys : List ℕ) (top : ℕ) → Rises b ys top → b < nextAbove m (suc top) ys
-unfolding nextAbove
+unfolding nextAbove nearer
 next-over m b [] top r = omega arith
 next-over m b (y ∷ ys) top r =
     let later = next-over m y ys top (r .1) in
@@ -151,7 +155,7 @@ next-over m b (y ∷ ys) top r =
     (λ h. rw (le-ltb m y h) (omega (arith, r .0, rises-top y ys top (r .1))))
 
 pub next-above : (m : ℕ) (ys : List ℕ) (top : ℕ) → m ≤ top → m < nextAbove m (suc top) ys
-unfolding nextAbove
+unfolding nextAbove nearer
 next-above m [] top h = omega arith
 next-above m (y ∷ ys) top h =
     let later = next-above m ys top h in
@@ -161,7 +165,7 @@ next-above m (y ∷ ys) top h =
 
 pub above-next : (m b : ℕ) (ys : List ℕ) (top : ℕ) → m ≤ top → Rises b ys top → nextAbove m (suc top) ys ≤ top
     → above m ys ≡ nextAbove m (suc top) ys ∷ above (nextAbove m (suc top) ys) ys
-unfolding nextAbove above
+unfolding nextAbove nearer above
 above-next m b [] top low r h = absurd (omega arith)
 above-next m b (y ∷ ys) top low r h =
     let later = next-over m y ys top (r .1) in
@@ -176,7 +180,7 @@ above-next m b (y ∷ ys) top low r h =
     rw (le-ltb m y l, e, le-ltb (nextAbove m (suc top) ys) y (omega arith)) (above-next m y ys top low (r .1) (omega arith)))
 
 pub above-none : (m b : ℕ) (ys : List ℕ) (top : ℕ) → Rises b ys top → top < nextAbove m (suc top) ys → above m ys ≡ []
-unfolding nextAbove above
+unfolding nextAbove nearer above
 above-none m b [] top r h = refl
 above-none m b (y ∷ ys) top r h =
     by-less m y
@@ -187,3 +191,8 @@ above-none m b (y ∷ ys) top r h =
 
 pub above-zero : (ys : List ℕ) (top : ℕ) → Rises 0 ys top → above 0 ys ≡ ys
 above-zero ys top r = above-all 0 0 ys top (omega arith) r
+
+-- ---- the least release, job by job
+
+unfoldable pub earlierRelease : ℕ → Job → ℕ → ℕ
+earlierRelease e j least = if j .deadline =? e then min (j .release) least else least

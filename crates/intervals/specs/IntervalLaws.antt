@@ -98,7 +98,7 @@ length-gap a b = go (a <? b)
     go true = omega arith
     go false = omega arith
 
-length-from : (js : List Job) (N prev : ℕ) (es : List ℕ) → length (intervalsFrom js N prev es) ≤ 2 * length es + 1
+pub length-from : (js : List Job) (N prev : ℕ) (es : List ℕ) → length (intervalsFrom js N prev es) ≤ 2 * length es + 1
 unfolding intervalsFrom
 length-from js N prev [] = omega (arith, length-gap prev N)
 length-from js N prev (e ∷ es) =
@@ -232,9 +232,13 @@ ends-later t e (x ∷ xs) m h =
 
 -- ---- of a plan whose windows hold
 
-intervals-are : (p : Plan) → windowsHold p ≡ true → intervalsFrom (jobsOf p) (p .slots) 0 (deadlines p) ≡ intervals p
+pub intervals-are : (p : Plan) → windowsHold p ≡ true → intervalsFrom (jobsOf p) (p .slots) 0 (deadlines p) ≡ intervals p
 unfolding intervals
 intervals-are p h = rw h
+
+pub no-intervals : (p : Plan) → windowsHold p ≡ false → intervals p ≡ []
+unfolding intervals
+no-intervals p h = rw h
 
 module _ (p : Plan) (h : windowsHold p ≡ true) where
   pub intervals-cover : Covers 0 (intervals p) (p .slots)

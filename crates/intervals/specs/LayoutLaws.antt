@@ -22,9 +22,17 @@ use Rattle.intervals.specs.declared.Interval.{Interval}
 use Rattle.intervals.specs.Intervals.{maxIntervals, intervals, past}
 use Rattle.intervals.specs.Spares.{nextSpare, spare, remaining, spares, row}
 use Rattle.intervals.specs.Layout.{blankInterval, placeOf, homes, layoutOf, listed, workAt, sparesFrom, rowIn, pastIn}
-use Rattle.intervals.specs.IntervalLaws.{Covers, ends, intervalAt, start-end-at, intervals-cover, few-intervals}
+use Rattle.intervals.specs.IntervalLaws.{Covers, ends, intervalAt, start-end-at, intervals-cover, few-intervals, no-intervals}
 
 -- ---- places by their ends
+
+pub place-here : (e : ℕ) (x : Interval) (xs : List Interval) → x .end ≡ e → placeOf e (x ∷ xs) ≡ 0
+unfolding placeOf
+place-here e x xs q = rw (eq-eqb (x .end) e q)
+
+pub place-on : (e : ℕ) (x : Interval) (xs : List Interval) → (x .end ≡ e → ⊥) → placeOf e (x ∷ xs) ≡ suc (placeOf e xs)
+unfolding placeOf
+place-on e x xs q = rw (ne-eqb (x .end) e q)
 
 -- the interval at the place of e ends at e
 pub at-place : (e : ℕ) (xs : List Interval) → placeOf e xs < length xs → intervalAt xs (placeOf e xs) .end ≡ e
@@ -102,10 +110,6 @@ listed-layout p = take-append-seam (intervals p) (replicate (maxIntervals - leng
 pub past-of-layout : (p : Plan) (t : ℕ) → pastIn (layoutOf p) t ≡ past t (intervals p)
 unfolding pastIn
 past-of-layout p t = ap (past t) (listed-layout p)
-
-no-intervals : (p : Plan) → windowsHold p ≡ false → intervals p ≡ []
-unfolding intervals
-no-intervals p h = rw h
 
 -- the remaining work of the i-th interval is the work at home in place i
 pub work-of-layout : (p : Plan) (ws : List ℕ) (i : ℕ) → windowsHold p ≡ true → i < length (intervals p)

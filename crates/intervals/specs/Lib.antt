@@ -5,3 +5,4 @@ pub mod RowLaws
 pub mod DeadlineLaws
 pub mod IntervalLaws
 pub mod LayoutLaws
+pub mod Laid

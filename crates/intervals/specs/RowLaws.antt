@@ -160,25 +160,6 @@ pub past-stop : (t : ℕ) (x : Interval) (xs : List Interval) → t < x .end →
 unfolding past
 past-stop t x xs h = rw (lt-leb (x .end) t h)
 
--- the count at place i of the first n: it goes on, or ends here
-module _ (t n i : ℕ) (xs : List Interval) (long : n ≤ length xs) (within : i < n) (so-far : past t (take n xs) ≡ i + past t (drop i (take n xs))) where
-  pub past-on : getD xs i blankInterval .end ≤ t → past t (take n xs) ≡ i + 1 + past t (drop (i + 1) (take n xs))
-  past-on h =
-      let e : past t (drop i (take n xs)) ≡ suc (past t (drop (i + 1) (take n xs))) = rw (taken-from xs n i blankInterval long within, add-one i) (past-more t _ _ h) in
-      omega arith
-
-  pub past-here : t < getD xs i blankInterval .end → i ≡ past t (take n xs)
-  past-here h =
-      let e : past t (drop i (take n xs)) ≡ 0 = rw (taken-from xs n i blankInterval long within) (past-stop t _ _ h) in
-      omega arith
-
-pub past-none : (t n : ℕ) (xs : List Interval) → past t (take n xs) ≡ n + past t (drop n (take n xs)) → n ≤ length xs → n ≡ past t (take n xs)
-unfolding past
-past-none t n xs e h =
-    let d : drop n (take n xs) ≡ [] = drop-of-length-le (take n xs) {i = n} (omega (arith, length-take n xs)) in
-    let z : past t (drop n (take n xs)) ≡ 0 = rw d in
-    omega arith
-
 length-spares : (t i : ℕ) (hs ws : List ℕ) (xs : List Interval) → length (sparesFrom t i hs ws xs) ≡ length xs
 unfolding sparesFrom
 length-spares t i hs ws [] = refl

@@ -2,13 +2,19 @@
 ghost use mathlib.Core.Path.{_≡_};
 ghost use Prim.Native.Nat.{ℕ, _+_, _*_, _-_, _≤_, _<_, max, min};
 ghost use lib.IntN.{subℕ};
-ghost use lib.ListN.{length};
-ghost use Rattle.intervals.specs.Intervals.{maxIntervals};
+ghost use lib.ListN.{length, take};
+ghost use mathlib.Core.List.{List, [], _∷_, _++_, map};
+ghost use Rattle.intervals.specs.Intervals.{maxIntervals, rising, leastRelease, gap, intervalsFrom, intervals};
+ghost use Rattle.words.specs.Words.{filled};
+ghost use Rattle.plan.specs.Limits.{maxSlots, maxJobs};
+ghost use Rattle.intervals.specs.DeadlineLaws.{Windowed, nearer, nextAbove, earlierRelease};
+ghost use Rattle.intervals.specs.Laid.{laid, RoomFor, added, allIntervals};
 ghost use Rattle.intervals.specs.Spares.{hiLeft, loLeft};
-ghost use Rattle.intervals.specs.Layout.{rowIn, pastIn};
+ghost use Rattle.intervals.specs.Layout.{listed, placeOf, layoutOf, rowIn, pastIn};
 ghost use Rattle.intervals.specs.RowLaws.{SumsBelow, withWork, ByHome, room, asked};
 use plan::Job;
 use plan::Level;
+use plan::Plan;
 
 // Every deadline ends an interval, and an empty one may stand before each and after the last.
 pub const INTERVALS: usize = 65;
@@ -63,8 +69,16 @@ pub fn lo_left(j: Job, live: bool, given: u16) -> u16
 fn listed_count(count: u16) -> usize
     ensures { λ r. ⌜ r ≡ min count maxIntervals ⌝ }
 {
-    let n = count as usize;
+    let n = plan::wide(count);
     if n <= INTERVALS { n } else { INTERVALS }
+}
+
+// How many entries of a plan's array are its jobs, for any n.
+fn listed_jobs(jobs: u16) -> usize
+    ensures { λ r. ⌜ r ≡ min jobs maxJobs ⌝ }
+{
+    let n = plan::wide(jobs);
+    if n <= plan::JOBS { n } else { plan::JOBS }
 }
 
 // How many intervals are past at border t: the next one is the current.
@@ -161,4 +175,181 @@ pub fn row_of(l: Layout, t: u16, work: [u16; plan::JOBS]) -> [i32; INTERVALS]
         debt = over(ask, free);
     }
     row
+}
+
+fn smaller(a: u16, b: u16) -> u16
+    ensures { λ r. ⌜ r ≡ min a b ⌝ }
+{
+    if a <= b { a } else { b }
+}
+
+// Deadline d where it is above border m and before `next`, else `next`.
+fn nearer_deadline(m: u16, beyond: u16, d: u16, next: u16) -> u16
+    ensures { λ r. ⌜ r ≡ nearer m beyond d next ⌝ }
+{
+    if m < d {
+        smaller(d, next)
+    } else {
+        smaller(beyond, next)
+    }
+}
+
+// The least of the first n jobs' deadlines above border m, `beyond` where there is none.
+fn next_deadline(job: [Job; plan::JOBS], n: usize, m: u16, beyond: u16) -> u16
+    requires { ⌜ n ≤ maxJobs ⌝ }
+    ensures { λ r. ⌜ r ≡ nextAbove m beyond (map (λ j. j .deadline) (take n job)) ⌝ }
+{
+    let mut next = beyond;
+    let mut i = n;
+    while 0 < i {
+        i -= 1;
+        let j = job[i];
+        next = nearer_deadline(m, beyond, j.deadline, next);
+    }
+    next
+}
+
+// The least release with job j's, where its deadline is e.
+fn earlier_release(e: u16, j: Job, least: u16) -> u16
+    ensures { λ r. ⌜ r ≡ earlierRelease e j least ⌝ }
+{
+    if j.deadline == e {
+        smaller(j.release, least)
+    } else {
+        least
+    }
+}
+
+// The least release of the first n jobs with deadline e, which is e where there is none.
+fn least_release(job: [Job; plan::JOBS], n: usize, e: u16) -> u16
+    requires { ⌜ n ≤ maxJobs ⌝ }
+    ensures { λ r. ⌜ r ≡ leastRelease e (take n job) ⌝ }
+{
+    let mut least = e;
+    let mut i = n;
+    while 0 < i {
+        i -= 1;
+        let j = job[i];
+        least = earlier_release(e, j, least);
+    }
+    least
+}
+
+// A layout with no intervals and no job at home.
+fn empty_layout() -> Layout
+    ensures { λ r. ⌜ r ≡ laid [] ⌝ }
+{
+    let blank = Interval { start: 0, end: 0 };
+    let interval = [blank; INTERVALS];
+    let home = [INTERVALS as u16; plan::JOBS];
+    Layout {
+        count: 0,
+        interval: interval,
+        home: home,
+    }
+}
+
+fn with_interval(l: Layout, start: u16, end: u16) -> Layout
+    requires { ⌜ RoomFor l (record { start = start; end = end } ∷ []) ⌝ }
+    ensures { λ r. ⌜ r ≡ laid (listed l ++ record { start = start; end = end } ∷ []) ⌝ }
+{
+    let place = l.count as usize;
+    let mut next = l;
+    next.interval[place] = Interval {
+        start: start,
+        end: end,
+    };
+    next.count = l.count + 1;
+    next
+}
+
+// With the empty interval from a to b, where there is a gap.
+fn with_gap(l: Layout, a: u16, b: u16) -> Layout
+    requires { ⌜ RoomFor l (gap a b) ⌝ }
+    ensures { λ r. ⌜ r ≡ laid (listed l ++ gap a b) ⌝ }
+{
+    if a < b { with_interval(l, a, b) } else { l }
+}
+
+// With the interval that deadline e ends, after the end `prev`, and the gap before it.
+fn with_deadline(l: Layout, job: [Job; plan::JOBS], n: usize, prev: u16, e: u16) -> Layout
+    requires { ⌜ (n ≤ maxJobs) × RoomFor l (added (take n job) prev e) ⌝ }
+    ensures { λ r. ⌜ r ≡ laid (listed l ++ added (take n job) prev e) ⌝ }
+{
+    let start = larger(prev, least_release(job, n, e));
+    let gapped = with_gap(l, prev, start);
+    with_interval(gapped, start, e)
+}
+
+// The intervals of the first n jobs, their windows holding: deadline by deadline, and the gap after the last.
+fn intervals_of(job: [Job; plan::JOBS], n: usize, slots: u16) -> Layout
+    requires { ⌜ (n ≤ maxJobs) × (slots ≤ maxSlots) × Windowed slots (take n job) ⌝ }
+    ensures { λ r. ⌜ r ≡ laid (allIntervals (take n job) slots) ⌝ }
+{
+    let beyond = slots + 1;
+    let mut l = empty_layout();
+    let mut prev: u16 = 0;
+    let mut e = next_deadline(job, n, prev, beyond);
+    while e <= slots {
+        l = with_deadline(l, job, n, prev, e);
+        prev = e;
+        e = next_deadline(job, n, prev, beyond);
+    }
+    with_gap(l, prev, slots)
+}
+
+// The intervals of a plan; a plan whose limits or windows are broken has none.
+fn plan_intervals(p: Plan) -> Layout
+    ensures { λ r. ⌜ r ≡ laid (intervals p) ⌝ }
+{
+    if !plan::windows_hold(p) {
+        return empty_layout();
+    }
+    let job = p.job;
+    let n = plan::wide(p.jobs);
+    intervals_of(job, n, p.slots)
+}
+
+// The place of the first interval that ends at e, the count where there is none.
+fn place_of(l: Layout, e: u16) -> u16
+    ensures { λ r. ⌜ r ≡ placeOf e (listed l) ⌝ }
+{
+    let count = listed_count(l.count);
+    let interval = l.interval;
+    let mut i: usize = 0;
+    while i < count {
+        let x = interval[i];
+        if x.end == e {
+            return i as u16;
+        }
+        i += 1;
+    }
+    i as u16
+}
+
+// The home of each job; an entry beyond the jobs has none.
+fn homes_of(l: Layout, job: [Job; plan::JOBS], n: usize) -> [u16; plan::JOBS]
+    requires { ⌜ n ≤ maxJobs ⌝ }
+    ensures { λ r. ⌜ r ≡ filled maxJobs maxIntervals (map (λ j. placeOf (j .deadline) (listed l)) (take n job)) ⌝ }
+{
+    let mut home = [INTERVALS as u16; plan::JOBS];
+    let mut i: usize = 0;
+    while i < n {
+        let j = job[i];
+        home[i] = place_of(l, j.deadline);
+        i += 1;
+    }
+    home
+}
+
+// The intervals of a plan with the homes of its jobs, worked out once.
+pub fn layout_of(p: Plan) -> Layout
+    ensures { λ r. ⌜ r ≡ layoutOf p ⌝ }
+{
+    let bare = plan_intervals(p);
+    let job = p.job;
+    let home = homes_of(bare, job, listed_jobs(p.jobs));
+    let mut l = bare;
+    l.home = home;
+    l
 }

@@ -3,3 +3,6 @@ pub mod ListLaws
 pub mod EveryLaws
 pub mod Cases
 pub mod Difference
+pub mod FilledLaws
+pub mod BackLaws
+pub mod PassedLaws

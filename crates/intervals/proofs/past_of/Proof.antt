@@ -1,13 +1,14 @@
 -- `intervals::past_of` meets its contract. The loop's invariant: the passed intervals and those past among the rest are all that are past.
 use Prim.Native.Nat.{_≤_, _-_, _+_, min}
-use mathlib.Core.Path.{_≡_, _∙_, ap}
+use mathlib.Core.Path.{_≡_, refl, _∙_, ap}
 use native.Mathlib.Omega.{arith}
 use borrow.Author.Needs.{needs}
 use lib.ListN.{length, take, drop}
 use Rattle.words.specs.ListLaws.{long}
+use Rattle.words.specs.PassedLaws.{passed-on, passed-here, passed-all}
 use Rattle.intervals.specs.Intervals.{maxIntervals, past}
-use Rattle.intervals.specs.Layout.{pastIn}
-use Rattle.intervals.specs.RowLaws.{past-on, past-here, past-none, take-min}
+use Rattle.intervals.specs.Layout.{blankInterval, listed, pastIn}
+use Rattle.intervals.specs.RowLaws.{past-stop, past-more, take-min}
 use Rattle.intervals.proofs.past_of.Statement.{statement}
 use Rattle.intervals.proofs.past_of.Tie as tie
 
@@ -19,6 +20,13 @@ abbrev μ-loop : tie.MeasureT-loop
 
 size : (c : tie.Start Inv-loop μ-loop) → length (c .args .l .interval) ≡ maxIntervals
 size c = search (needs, long)
+
+-- the count is within the array, and takes all that is listed
+few : (c : tie.After-listed-count Inv-loop μ-loop) → c .listed-count .result ≤ length (c .before .args .l .interval)
+few c = omega (arith, size (c .before), c .listed-count .ensures)
+
+all : (c : tie.After-listed-count Inv-loop μ-loop) → take (c .listed-count .result) (c .before .args .l .interval) ≡ listed (c .before .args .l)
+all c = rw (c .listed-count .ensures) (take-min (c .before .args .l .count) maxIntervals (c .before .args .l .interval) (size (c .before)))
 
 listed-count-requires : tie.Need-listed-count-requires Inv-loop μ-loop
 listed-count-requires c κs = search needs
@@ -38,9 +46,8 @@ returns c =
     let l = c .before .before .before .before .loop in
     let called = c .before .before .before .before .before .before in
     let a = called .before .args in
-    let n = called .listed-count .result in
-    past-here (a .t) n (l .i) (a .l .interval) (omega (arith, size (called .before), called .listed-count .ensures)) (omega arith) (l .inv .1) (c .if1 .taken)
-    ∙ ap (past (a .t)) (rw (called .listed-count .ensures) (take-min (a .l .count) maxIntervals (a .l .interval) (size (called .before))))
+    passed-here (past (a .t)) (a .l .interval) (called .listed-count .result) (l .i) blankInterval (few called) (l .inv .1) (search needs) (λ ys. past-stop _ _ ys (c .if1 .taken))
+    ∙ ap (past (a .t)) (all called)
 
 add-i : tie.Need-add-i Inv-loop μ-loop
 add-i c = search needs
@@ -53,18 +60,16 @@ loop-again c =
     let l = c .before .before .before .before .loop in
     let called = c .before .before .before .before .before .before in
     let a = called .before .args in
-    let n = called .listed-count .result in
-    (search needs, past-on (a .t) n (l .i) (a .l .interval) (omega (arith, size (called .before), called .listed-count .ensures)) (omega arith) (l .inv .1) (c .if1 .left))
+    (search needs, passed-on (past (a .t)) (a .l .interval) (called .listed-count .result) (l .i) blankInterval (few called) (l .inv .1) (search needs) (λ ys. past-more _ _ ys (c .if1 .left)))
 
 returns-2 : tie.Need-returns-2 Inv-loop μ-loop
-unfolding pastIn
+unfolding pastIn past
 returns-2 c =
+    let l = c .before .loop in
     let called = c .before .before .before in
     let a = called .before .args in
-    let n = called .listed-count .result in
-    let e : c .before .loop .i ≡ n = omega arith in
-    e ∙ past-none (a .t) n (a .l .interval) (rw e at (c .before .loop .inv .1)) (omega (arith, size (called .before), called .listed-count .ensures))
-    ∙ ap (past (a .t)) (rw (called .listed-count .ensures) (take-min (a .l .count) maxIntervals (a .l .interval) (size (called .before))))
+    passed-all (past (a .t)) (a .l .interval) (called .listed-count .result) (l .i) blankInterval (few called) (l .inv .1) (search needs) refl
+    ∙ ap (past (a .t)) (all called)
 
 pub past-of-spec : {M : Type 1} → statement M
 past-of-spec =
