@@ -2,41 +2,31 @@
 use Prim.Native.Nat.{ℕ, _-_, _≤_, _<_}
 use native.Mathlib.Omega.{arith}
 use mathlib.Core.Path.{_≡_, refl, sym, _∙_}
-use mathlib.Core.Logic.{_⊎_, inl, inr, ⊎-elim}
+use mathlib.Core.Logic.{⊎-elim, _⊎_, inl, inr}
 use mathlib.Core.Bool.{Bool, true, false, not, _&&_}
 use lib.ListN.{length}
 use borrow.Author.Tests.{leb-true, le-leb}
+use Rattle.words.specs.Words.{_≤?_, above0, below0}
 use Rattle.plan.specs.declared.Job.{Job}
-use Rattle.words.specs.Words.{_≤?_, below0, above0}
 use Rattle.plan.specs.Plan.{jobNo, isHi, tableAt}
 use Rattle.acceptance_promise.specs.Promise.{InOrder}
-use Rattle.acceptance_promise.specs.RefusalLaws.{never, both-true}
+use Rattle.acceptance_promise.specs.RefusalLaws.{both-true, never}
 use Rattle.executive.specs.declared.Phase.{Phase}
 use Rattle.executive.specs.declared.Phase.the-variants.{T, H}
 use Rattle.executive.specs.declared.Run.{Run}
 use Rattle.executive.specs.declared.Slot.{Slot}
 use Rattle.executive.specs.Run.{live, entryNo, currentHi, currentLo}
-use Rattle.executive.specs.Choice.{isReady, ready, readyHi, earliest, chosenT, chosenH, chosen}
+use Rattle.executive.specs.Choice.{chosen, earliest, ready, readyHi, isReady, chosenT, chosenH}
 use Rattle.promises.specs.Demands.{JobOf}
+use Rattle.promises.specs.Chosen.{Ready, EarliestReady, EarliestReadyHi}
 use Rattle.promises.specs.General.{joined}
-use Rattle.promises.specs.EarliestLaws.{EarliestOf, earliest-of}
+use Rattle.promises.specs.EarliestLaws.{earliest-of}
 
 pub idle-is-no-job : (m : ℕ) → Slot.Idle ≡ Slot.Job m → ⊥
 idle-is-no-job m e = let z : _≡_ {A = ℕ} 0 1 = cc in omega arith
 
 pub same-job : (k m : ℕ) → Slot.Job k ≡ Slot.Job m → k ≡ m
 same-job k m e = cc
-
--- job k is ready
-abbrev pub Ready : Run → ℕ → Type 0
-Ready r k = (live (entryNo r k) ≡ true) × (jobNo (r .plan) k .release ≤ r .t)
-
--- the earliest-deadline ready job, or idle where none is ready; the same of the HI jobs
-abbrev pub EarliestReady : Run → Slot → Type 0
-EarliestReady r slot = EarliestOf (r .plan) (λ k. Ready r k) slot
-
-abbrev pub EarliestReadyHi : Run → Slot → Type 0
-EarliestReadyHi r slot = EarliestOf (r .plan) (λ k. (isHi (jobNo (r .plan) k) ≡ true) × Ready r k) slot
 
 module _ (r : Run) where
   ready-numbers : (k : ℕ) → isReady (r .t) (jobNo (r .plan) k) (entryNo r k) ≡ true → Ready r k

@@ -1,126 +1,37 @@
--- Demands 3a and 3b: what the deadlines of an accepted plan's runs find. Proved from the run's invariant (Kept), from what ends tell (Ends) and from demand 2.
-use Prim.Native.Nat.{ℕ, suc, _+_, _-_, _≤_, _<_}
+-- Demands 3a and 3b: what the deadlines of an accepted plan's runs find. Proved over whole runs from the invariant, from what ends tell and from demand 2.
+use Prim.Native.Nat.{ℕ, suc, _-_, _≤_, _<_}
 use native.Mathlib.Nat.{not-suc-le-zero}
-use native.Mathlib.Decide.{decLt}
 use native.Mathlib.Omega.{arith}
-use mathlib.Core.Path.{_≡_, refl, sym, ap, subst, _∙_}
-use mathlib.Core.Logic.{_⊎_, inl, inr, ⊎-elim}
+use mathlib.Core.Path.{_≡_, refl, sym, ap, _∙_, subst}
+use mathlib.Core.Logic.{⊎-elim, _⊎_, inl, inr}
 use mathlib.Core.Bool.{true}
-use mathlib.Core.List.{List, [], _∷_, _++_}
-use lib.ListN.{length, getD, length-append, List·getD-append}
-use lib.Seq.{getD-at}
-use borrow.Author.Tests.{eqb-true}
+use mathlib.Core.List.{List}
+use lib.ListN.{length, getD}
 use Rattle.plan.specs.declared.Plan.{Plan}
-use Rattle.words.specs.Words.{_=?_}
 use Rattle.plan.specs.Plan.{jobNo, isHi, naming}
 use Rattle.acceptance_promise.specs.Promise.{jobAt, InOrder, A2}
 use Rattle.acceptance_promise.specs.RefusalLaws.{never}
 use Rattle.acceptance_promise.specs.InOrderLaws.{in-order}
 use Rattle.acceptance_promise.specs.Laws.{accepted-has}
-use Rattle.acceptance_promise.specs.OneSlot.{SlotTo}
-use Rattle.acceptance_promise.specs.OneSlotLaws.{table-met}
-use Rattle.executive.specs.declared.Standing.{Standing}
-use Rattle.executive.specs.declared.Standing.the-variants.{Waiting, Finished, Cut, Dropped}
-use Rattle.executive.specs.declared.Entry.{Entry}
-use Rattle.executive.specs.declared.Phase.the-variants.{T}
 use Rattle.executive.specs.declared.Run.{Run}
-use Rattle.executive.specs.declared.Kind.the-variants.{None}
 use Rattle.executive.specs.declared.Report.{Report}
-use Rattle.executive.specs.Run.{live, waiting, entryNo}
+use Rattle.executive.specs.Run.{entryNo, waiting}
 use Rattle.executive.specs.Choice.{chosen}
 use Rattle.executive.specs.Step.{nextRun}
-use Rattle.promises.specs.Demands.{Demand3a, Demand3b, JobOf, FinishedInTime, HadWholeBudget, Reached, started, stepped, Event, event, jobRun, jobsRun, phaseAt}
-use Rattle.promises.specs.NextLaws.{next-plan, reportedEntry, reported-given, reported-alive, reported-holds, live-fewer, given-within}
-use Rattle.promises.specs.RecordLaws.{Taken, taken, Recorded, own-slot, none-fits-idle, next-run, start-run, start-accepted, accepted-well-formed}
+use Rattle.executive.specs.declared.Standing.{Standing}
+use Rattle.executive.specs.declared.Standing.the-variants.{Waiting, Finished, Cut, Dropped}
+use Rattle.promises.specs.Demands.{JobOf, Event, jobsRun, Demand3a, Demand3b, FinishedInTime, HadWholeBudget, Reached, started, stepped}
+use Rattle.promises.specs.Runs.{Taken, entryAt, givenAt, Kept}
+use Rattle.promises.specs.Ends.{EndTells, MetIn}
+use Rattle.promises.specs.NextLaws.{next-plan, given-within}
+use Rattle.promises.specs.RecordLaws.{next-run, taken, start-accepted, start-run, accepted-well-formed}
+use Rattle.promises.specs.PhaseLaws.{place-of}
+use Rattle.promises.specs.KeptLaws.{live-open, kept-next, fresh, kept-start}
+use Rattle.promises.specs.EndLaws.{naming-inside}
 use Rattle.promises.specs.History.{reached-plan, reached-recorded, reached-t, reached-given}
-use Rattle.promises.specs.Kept.{Kept, entryAt, givenAt, liveAt, rule-at, live-open, next-at, given-next, slot-to, chosen-at, table-first, kept-start, kept-next, fresh}
-use Rattle.promises.specs.Ends.{jobs-last, jobs-length, phase-last, naming-inside, EndTells, DropTells, next-tells}
-
--- ---- one step of a run
-
-module _ (h : List Event) (r : Run) (w : Recorded r) (report : Report) (ok : Taken r report) (kept : Kept (r .plan) r) (time : r .t ≡ length h) where
-  abbrev next : Run
-  next = nextRun r (chosen r) (report .kind)
-
-  abbrev who : ℕ
-  who = jobRun (chosen r)
-
-  -- the entry at place k with the report, before expiry
-  abbrev reportedAt : ℕ → Entry
-  reportedAt k = reportedEntry (r .t + 1) (jobAt (r .plan) k) (who =? suc k) (report .kind) (entryAt r k)
-
-  own-alive : (k : ℕ) → (who =? suc k) ≡ true → liveAt r k ≡ true
-  own-alive k e = chosen-at r w report ok k (eqb-true who (suc k) e) .1
-
-  -- who had the slot, had it before the deadline
-  own-inside : (k : ℕ) → k < r .plan .jobs → (who =? suc k) ≡ true → r .t + 1 ≤ jobAt (r .plan) k .deadline
-  own-inside k l e = let a = live-open r w kept k l (own-alive k e) in omega arith
-
-  reported-slot : SlotTo (r .plan) who (givenAt r) (givenAt next) (liveAt r) (λ k. live (reportedAt k))
-  reported-slot = record {
-    more = slot-to r w report ok .more;
-    others = slot-to r w report ok .others;
-    fewer = λ k l a. reported-alive (r .t + 1) (jobAt (r .plan) k) (who =? suc k) (report .kind) (entryAt r k) a;
-  }
-
-  -- who is live with the report has fewer slots than hi
-  reported-fewer : (k : ℕ) → k < r .plan .jobs → live (reportedAt k) ≡ true → givenAt next k < jobAt (r .plan) k .hi
-  reported-fewer k l a =
-      let rule = reported-holds (r .t) (jobAt (r .plan) k) (who =? suc k) (report .kind) (entryAt r k) (own-alive k) (λ e. fit k e) (rule-at r w k l) in
-      let few = live-fewer (r .t + 1) (jobAt (r .plan) k .hi) (reportedAt k .given) (reportedAt k .standing) rule a in
-      let same = reported-given (r .t + 1) (jobAt (r .plan) k) (who =? suc k) (report .kind) (entryAt r k) in
-      let next = given-next r w report ok k l in
-      omega arith
-    where
-      fit : (k : ℕ) → (who =? suc k) ≡ true → report .kind ≡ None → ⊥
-      fit k e = none-fits-idle (chosen r) (suc k) (report .kind) (own-slot (chosen r) (suc k) (omega arith) e) (ok .fits)
-
-  -- a LO job is dropped at its deadline, and then the last slot was not run in phase T
-  drop-tells : (k : ℕ) → k < r .plan .jobs → DropTells (h ++ event r report ∷ []) (jobAt (r .plan) k) (r .t + 1) (reportedAt k .standing)
-  drop-tells k l alive low due =
-      let open-until = live-open r w kept k l (reported-slot .fewer k l alive) in
-      let long = length-append h (event r report ∷ []) in (
-        omega arith,
-        λ e. let phase : r .phase ≡ T = sym (phase-last h (event r report) (jobAt (r .plan) k .deadline - 1) (omega arith)) ∙ e in
-            let met = table-met (r .plan) (w .order) (r .t) who (givenAt r) (givenAt next) (liveAt r) (λ k. live (reportedAt k)) (kept .table phase) (table-first r w report ok phase) reported-slot k l (omega arith) alive in
-            let few = reported-fewer k l alive in
-            let whole = w .order .low k l low in
-            omega arith,
-      )
-
-  -- so each end goes on telling
-  ends-next : (k : ℕ) → k < r .plan .jobs → EndTells h (jobAt (r .plan) k) (givenAt r k) (entryAt r k .standing)
-      → EndTells (h ++ event r report ∷ []) (jobAt (r .plan) k) (givenAt next k) (entryAt next k .standing)
-  ends-next k l tells =
-      let some : 1 ≤ jobAt (r .plan) k .deadline = (let a = w .order .window k l in omega arith) in
-      subst (λ (e : Entry). EndTells (h ++ event r report ∷ []) (jobAt (r .plan) k) (e .given) (e .standing)) (sym (next-at r w report ok k l))
-      (next-tells h (event r report) (jobAt (r .plan) k) some (r .t + 1) (who =? suc k) (report .kind) (entryAt r k) (own-alive k) (own-inside k l) (drop-tells k l) tells)
-
-  -- and every slot goes inside its job's window
-  abbrev InsideAt : ℕ → ℕ → Type 0
-  InsideAt k s = (jobAt (r .plan) k .release ≤ s) × (s < jobAt (r .plan) k .deadline)
-
-  inside-next : (k : ℕ) → k < r .plan .jobs → ((s : ℕ) → s < length (jobsRun h) → getD (jobsRun h) s 0 ≡ suc k → InsideAt k s)
-      → (s : ℕ) → s < length (jobsRun (h ++ event r report ∷ [])) → getD (jobsRun (h ++ event r report ∷ [])) s 0 ≡ suc k → InsideAt k s
-  inside-next k l before = rw (jobs-last h (event r report)) (λ s m e. go s m e (decLt s (length (jobsRun h))))
-    where
-      go : (s : ℕ) → s < length (jobsRun h ++ who ∷ []) → getD (jobsRun h ++ who ∷ []) s 0 ≡ suc k → Dec (s < length (jobsRun h)) → InsideAt k s
-      go s m e (yes q) = before s q (sym (List·getD-append (jobsRun h) (who ∷ []) 0 s q) ∙ e)
-      go s m e (no q) =
-          let long = length-append (jobsRun h) (who ∷ []) in
-          let same = jobs-length h in
-          let c = chosen-at r w report ok k (sym (getD-at (jobsRun h) who [] 0 s (omega arith)) ∙ e) in
-          let released = c .2 in
-          let due = live-open r w kept k l (c .1) in
-          (omega arith, omega arith)
+use Rattle.promises.specs.DeadlineLaws.{ends-next, inside-next}
 
 -- ---- whole runs of an accepted plan
-
--- at its deadline a job has finished or had its whole budget, if it is HI or the last slot before was run in phase T
-abbrev pub MetIn : List Event → Run → Plan → Type 0
-MetIn h r p =
-    (k : ℕ) → JobOf p k → jobNo p k .deadline ≤ r .t → (isHi (jobNo p k) ≡ true) ⊎ (phaseAt h (jobNo p k .deadline - 1) ≡ T)
-    → FinishedInTime p r k ⊎ HadWholeBudget p h r k
 
 module _ (p : Plan) (a2 : A2 p) where
   -- one step, from a run that was reached
@@ -178,8 +89,8 @@ module _ (p : Plan) (a2 : A2 p) where
           let t : EndTells h (jobNo (r .plan) k) (entryNo r k .given) (Dropped b) = subst (EndTells h (jobNo (r .plan) k) (entryNo r k .given)) e tells in
           absurd (⊎-elim (λ high. never high (t .0)) (t .2) why)
 
-  pub met : {h : List Event} {r : Run} → Reached p h r → MetIn h r p
-  met {h} {r} q = subst (MetIn h r) (reached-plan q) (met-own q)
+  pub reached-met : {h : List Event} {r : Run} → Reached p h r → MetIn h r p
+  reached-met {h} {r} q = subst (MetIn h r) (reached-plan q) (met-own q)
 
 -- ---- the demands
 
@@ -193,16 +104,12 @@ pub kept : {p : Plan} {h : List Event} {r : Run} → Reached p h r → Kept p r
 kept {p} q = reached-kept p (reached-a2 q) q
 
 pub demand-3a : Demand3a
-demand-3a p h r q k l high due = met p (reached-a2 q) q k l due (inl high)
+demand-3a p h r q k l high due = reached-met p (reached-a2 q) q k l due (inl high)
 
 pub demand-3b : Demand3b
-demand-3b p h r q k l low due phase = met p (reached-a2 q) q k l due (inr phase)
+demand-3b p h r q k l low due phase = reached-met p (reached-a2 q) q k l due (inr phase)
 
 -- ---- what follows for every run
-
--- a job's place, from its number
-place-of : (p : Plan) (k : ℕ) → JobOf p k → k - 1 < p .jobs
-place-of p k l = let a = l .0 in let b = l .1 in omega arith
 
 -- at the last border every HI job has finished in time or had its whole larger budget in its window
 pub all-hi-met : (p : Plan) (h : List Event) (r : Run) → Reached p h r → r .t ≡ p .slots → (k : ℕ) → JobOf p k → isHi (jobNo p k) ≡ true → FinishedInTime p r k ⊎ HadWholeBudget p h r k

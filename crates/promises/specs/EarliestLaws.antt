@@ -1,39 +1,30 @@
 -- Laws of the earliest deadline: the walk over a set finds the one member that leads, or is idle where there is none.
-use Prim.Native.Nat.{ℕ, zero, suc, _+_, _*_, _-_, _≤_, _<_, suc-le-suc, zero-le}
+use Prim.Native.Nat.{ℕ, zero, suc, _+_, _-_, _≤_, _<_, suc-le-suc, zero-le, _*_}
 use native.Mathlib.Decide.{decLt}
 use native.Mathlib.Omega.{arith}
 use mathlib.Core.Path.{_≡_, refl, sym, ap, _∙_}
-use mathlib.Core.Logic.{_⊎_, inl, inr, ⊎-elim}
-use mathlib.Core.Bool.{Bool, true, false, not, _&&_, _||_, false≢true, true≢false}
+use mathlib.Core.Logic.{⊎-elim, _⊎_, inl, inr}
+use mathlib.Core.Bool.{Bool, true, false, not, _&&_, false≢true, _||_, true≢false}
 use mathlib.Core.List.{List, [], _∷_, zipWith}
 use lib.ListN.{length, getD}
 use lib.Seq.{getD-take, length-take-le}
-use borrow.Author.Tests.{ltb-true, eqb-true, ltb-false, eqb-false}
+use borrow.Author.Tests.{eqb-true, ltb-true, ltb-false, eqb-false}
+use Rattle.words.specs.Words.{if_then_else_, _=?_, _<?_}
+use Rattle.words.specs.Cases.{by-test}
 use Rattle.plan.specs.declared.Job.{Job}
 use Rattle.plan.specs.declared.Plan.{Plan}
-use Rattle.words.specs.Cases.{by-test}
-use Rattle.words.specs.Words.{if_then_else_, _<?_, _=?_}
 use Rattle.plan.specs.Plan.{jobsOf, jobNo, isHi, blankJob}
 use Rattle.acceptance_promise.specs.RefusalLaws.{never}
 use Rattle.executive.specs.declared.Entry.{Entry}
 use Rattle.executive.specs.declared.Slot.{Slot}
 use Rattle.executive.specs.Run.{freshEntry}
 use Rattle.executive.specs.ZipLaws.{zipped-at}
-use Rattle.executive.specs.Choice.{goesBefore, better, earliestFrom, earliest}
+use Rattle.executive.specs.Choice.{earliest, goesBefore, better, earliestFrom}
 use Rattle.promises.specs.Demands.{JobOf}
+use Rattle.promises.specs.Chosen.{Leads, EarliestOf}
 use Rattle.promises.specs.General.{zip-member}
 
 -- ---- the order
-
--- job m leads job k: least d, then HI before LO, then the lower number
-abbrev pub Leads : Plan → ℕ → ℕ → Type 0
-Leads p m k = (goesBefore (jobNo p k) (jobNo p m) ≡ false) × (k < m → goesBefore (jobNo p m) (jobNo p k) ≡ true)
-
--- the one of those with a property that leads them all, or idle where none has it
-abbrev pub EarliestOf : Plan → (ℕ → Type 0) → Slot → Type 0
-EarliestOf p Has slot =
-    ((slot ≡ Slot.Idle) × ((k : ℕ) → JobOf p k → Has k → ⊥))
-    ⊎ ((m : ℕ) × (slot ≡ Slot.Job m) × JobOf p m × Has m × ((k : ℕ) → JobOf p k → Has k → Leads p m k))
 
 -- a job's place in the order, as one number: the deadline, then HI before LO
 abbrev turn : Job → ℕ

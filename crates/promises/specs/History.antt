@@ -1,32 +1,33 @@
 -- Demand 2: over every sequence of accepted reports the run is what its history says. Proved by induction on the sequence from the laws of one step.
 use Prim.Native.Nat.{ℕ, suc, _+_, _<_}
 use native.Mathlib.Omega.{arith}
-use mathlib.Core.Path.{_≡_, refl, sym, ap, subst, _∙_}
-use mathlib.Core.Logic.{_↔_, ⊎-elim}
+use mathlib.Core.Path.{_≡_, refl, sym, ap, _∙_, subst}
+use mathlib.Core.Logic.{⊎-elim, _↔_}
 use mathlib.Core.Bool.{Bool, true, false}
 use mathlib.Core.List.{List, [], _∷_, _++_}
 use lib.ListN.{length, length-append}
+use Rattle.words.specs.Words.{if_then_else_, _=?_}
+use Rattle.answers.specs.declared.Answer.the-variants.{Accepted, Incoherent}
 use Rattle.plan.specs.declared.Job.{Job}
 use Rattle.plan.specs.declared.Plan.{Plan}
-use Rattle.answers.specs.declared.Answer.the-variants.{Accepted, Incoherent}
-use Rattle.words.specs.Words.{if_then_else_, _=?_}
 use Rattle.plan.specs.Plan.{jobNo, naming}
-use Rattle.executive.specs.declared.Standing.{Standing}
-use Rattle.executive.specs.declared.Standing.the-variants.{Waiting, Finished, Cut, Dropped}
 use Rattle.executive.specs.declared.Run.{Run}
 use Rattle.executive.specs.declared.Slot.{Slot}
-use Rattle.executive.specs.declared.Kind.{Kind}
-use Rattle.executive.specs.declared.Kind.the-variants.{More, None}
 use Rattle.executive.specs.declared.Report.{Report}
-use Rattle.executive.specs.declared.Stepped.{Stepped}
 use Rattle.executive.specs.Run.{entryNo}
 use Rattle.executive.specs.Coherent.{coherent}
-use Rattle.executive.specs.Choice.{chosen, choose, howMany, ready}
-use Rattle.executive.specs.Step.{standingAfter, nextRun, kindFits, step}
-use Rattle.promises.specs.Demands.{JobOf, Event, event, Reached, started, stepped, jobRun, jobsRun, standsAfter, firstEnd, told, Demand2}
+use Rattle.executive.specs.Choice.{chosen, ready, choose, howMany}
+use Rattle.executive.specs.Step.{nextRun, standingAfter, kindFits, step}
+use Rattle.executive.specs.declared.Standing.{Standing}
+use Rattle.executive.specs.declared.Standing.the-variants.{Waiting, Finished, Cut, Dropped}
+use Rattle.executive.specs.declared.Kind.{Kind}
+use Rattle.executive.specs.declared.Kind.the-variants.{More, None}
+use Rattle.executive.specs.declared.Stepped.{Stepped}
+use Rattle.promises.specs.Demands.{JobOf, jobRun, Event, event, jobsRun, firstEnd, Reached, started, stepped, standsAfter, told, Demand2}
+use Rattle.promises.specs.Runs.{leftAlone, fed, fedBy, Recorded}
 use Rattle.promises.specs.Refused.{coherent-not-refused-10, taken-or-same}
-use Rattle.promises.specs.NextLaws.{next-plan, next-t, given-after, stands-after, leftAlone}
-use Rattle.promises.specs.RecordLaws.{taken, taken-accepted, choose-accepted, next-run, Recorded, recorded-coherent, own-live, next-entry, next-recorded, start-accepted, start-run, accepted-well-formed, start-recorded, fresh-at}
+use Rattle.promises.specs.NextLaws.{next-plan, next-t, given-after, stands-after}
+use Rattle.promises.specs.RecordLaws.{next-run, taken, taken-accepted, choose-accepted, recorded-coherent, own-live, next-entry, next-recorded, start-accepted, start-run, accepted-well-formed, fresh-at, start-recorded}
 
 -- ---- the record
 
@@ -161,16 +162,6 @@ demand-2 p h r q =
     )
 
 -- ---- any sequence of reports
-
--- the run after some reports, whatever was answered
-unfoldable pub fed : Run → List Report → Run
-fed r [] = r
-fed r (report ∷ reports) = fed (step r report .run) reports
-
--- the same by another step
-unfoldable pub fedBy : (Run → Report → Stepped) → Run → List Report → Run
-fedBy mine r [] = r
-fedBy mine r (report ∷ reports) = fedBy mine (mine r report .run) reports
 
 -- an accepted report makes the history longer, a refused one leaves the run as it was: so every sequence leads to a run that comes from the start
 pub every-sequence : {p : Plan} (reports : List Report) {h : List Event} {r : Run} → Reached p h r → (all : List Event) × Reached p all (fed r reports)

@@ -26,6 +26,7 @@ use Rattle.executive.specs.Run.{live, waiting, entryNo, freshEntry, freshHi, fr
 use Rattle.executive.specs.Coherent.{standingHolds}
 use Rattle.executive.specs.Step.{standingAfter, ranOn, entriesAfter, reported, expiredEntry, expiredEntries, expired, overrun, canReturn, phaseAfter, judged, refreshed, nextRun}
 use Rattle.promises.specs.Demands.{JobOf, jobRun, firstEnd}
+use Rattle.promises.specs.Runs.{reportedEntry, entryAfter, leftAlone}
 use Rattle.promises.specs.General.{joined}
 
 -- ---- the whole record
@@ -64,14 +65,6 @@ unfolding nextRun refreshed judged expired reported
 next-phase r slot kind = same-phase (r .phase) r slot kind
 
 -- ---- one entry
-
--- the entry of one job with the report of the slot that ends at `border`: `own` says whether the slot was its own
-abbrev pub reportedEntry : ℕ → Job → Bool → Kind → Entry → Entry
-reportedEntry border j own kind e = if own then ranOn kind border j e else e
-
--- and after expiry
-unfoldable pub entryAfter : ℕ → Job → Bool → Kind → Entry → Entry
-entryAfter border j own kind e = expiredEntry border j (reportedEntry border j own kind e)
 
 -- expiry goes over the plan's jobs, one by one
 expired-at : (t : ℕ) (js : List Job) (es : List Entry) (i : ℕ) → i < length js → i < length es → getD (expiredEntries t js es) i freshEntry ≡ expiredEntry t (getD js i blankJob) (getD es i freshEntry)
@@ -127,10 +120,6 @@ module _ (r : Run) (kind : Kind) (k : ℕ) (l : JobOf (r .plan) k) (es-fit : r .
       rw (next-job r slot kind, expired-at (r .t + 1) (jobsOf (r .plan)) (entriesAfter r slot kind) (k - 1) x y, getD-take (r .plan .jobs) (r .plan .job) (k - 1) blankJob m, reported-at slot named)
 
 -- ---- laws of one entry
-
--- how a live job stands after a slot that ends at `border` and was not its own
-abbrev pub leftAlone : Job → ℕ → Standing
-leftAlone j border = if not (isHi j) && (j .deadline ≤? border) then Dropped border else Waiting
 
 module _ (border : ℕ) (j : Job) where
   pub expired-given : (e : Entry) → expiredEntry border j e .given ≡ e .given

@@ -1,4 +1,4 @@
--- What acceptance of a step means, and what every run that comes from a start keeps in its record.
+-- Laws of the record: what acceptance of a step means, and that the start has a whole record and every accepted step keeps it.
 use Prim.Native.Nat.{ℕ, zero, suc, _+_, _-_, _≤_, _<_, zero-le}
 use native.Mathlib.Nat.{not-suc-le-zero, le-of-suc-le-suc}
 use native.Mathlib.Omega.{arith}
@@ -6,16 +6,16 @@ use mathlib.Core.Path.{_≡_, refl, ap, _∙_}
 use mathlib.Core.Bool.{Bool, true, false, false≢true}
 use mathlib.Core.List.{List, [], _∷_, map, zipWith}
 use lib.IntN.{ℤ, pos, negsuc}
-use lib.ListN.{length, getD, replicate, length-replicate, getD-replicate}
+use lib.ListN.{length, getD, getD-replicate, replicate, length-replicate}
 use lib.Seq.{getD-take, length-take-le}
-use borrow.Author.Tests.{ltb-true, eqb-true, lt-ltb, le-leb, eq-eqb}
+use borrow.Author.Tests.{eq-eqb, eqb-true, ltb-true, lt-ltb, le-leb}
+use Rattle.words.specs.Words.{_=?_, _<?_, every}
+use Rattle.answers.specs.declared.Answer.the-variants.{Accepted, Incoherent, Over, OtherSlot, WrongKind}
+use Rattle.answers.specs.Answer.{accepted, _unless_, _andThen_}
 use Rattle.plan.specs.declared.Job.{Job}
 use Rattle.plan.specs.declared.Plan.{Plan}
-use Rattle.answers.specs.declared.Answer.the-variants.{Accepted, Incoherent, Over, OtherSlot, WrongKind}
-use Rattle.words.specs.Words.{_<?_, _=?_, every}
 use Rattle.plan.specs.Limits.{maxJobs}
 use Rattle.plan.specs.Plan.{jobsOf, jobNo, blankJob}
-use Rattle.answers.specs.Answer.{accepted, _unless_, _andThen_}
 use Rattle.intervals.specs.Spares.{hiLeft, loLeft}
 use Rattle.acceptance.specs.Acceptance.{wellFormed, acceptance, check8, check9}
 use Rattle.acceptance_promise.specs.Promise.{InOrder}
@@ -23,26 +23,21 @@ use Rattle.acceptance_promise.specs.RefusalLaws.{unless-holds, both-accept}
 use Rattle.acceptance_promise.specs.InOrderLaws.{in-order}
 use Rattle.executive.specs.declared.Run.{Run}
 use Rattle.executive.specs.declared.Slot.{Slot}
+use Rattle.executive.specs.declared.Report.{Report}
+use Rattle.executive.specs.Run.{live, entryNo, freshEntry, freshHi, hiWork, newRun, freshLo, loWork, start}
+use Rattle.executive.specs.Coherent.{standingHolds, entriesHold, sameSpare, sameRow, coherent}
+use Rattle.executive.specs.Choice.{chosen, ready, choose, canGoOn, howMany}
+use Rattle.executive.specs.Step.{nextRun, kindFits, reportAnswer, step}
 use Rattle.executive.specs.declared.Kind.{Kind}
 use Rattle.executive.specs.declared.Kind.the-variants.{None}
-use Rattle.executive.specs.declared.Report.{Report}
-use Rattle.executive.specs.Run.{live, entryNo, freshEntry, freshHi, freshLo, hiWork, loWork, start, newRun}
-use Rattle.executive.specs.Coherent.{standingHolds, entriesHold, sameSpare, sameRow, coherent}
-use Rattle.executive.specs.Choice.{chosen, choose, canGoOn, howMany, ready}
-use Rattle.executive.specs.Step.{nextRun, kindFits, reportAnswer, step}
-use Rattle.promises.specs.Demands.{Sized, JobOf, jobRun}
+use Rattle.promises.specs.Demands.{JobOf, jobRun, Sized}
+use Rattle.promises.specs.Runs.{entryAfter, Taken, Recorded}
+use Rattle.promises.specs.Chosen.{Ready}
 use Rattle.promises.specs.General.{joined, is-accepted, zip-every}
-use Rattle.promises.specs.ChosenLaws.{Ready, chosen-ready}
-use Rattle.promises.specs.NextLaws.{next-plan, next-t, next-hi, next-lo, next-length, entryAfter, entry-next, holds-after}
+use Rattle.promises.specs.ChosenLaws.{chosen-ready}
+use Rattle.promises.specs.NextLaws.{next-plan, next-t, next-length, next-hi, next-lo, entry-next, holds-after}
 
 -- ---- an accepted step
-
--- what it means that a report is accepted
-pub record Taken (r : Run) (report : Report) : Type 0 where
-  pub whole : coherent r ≡ true
-  pub more : r .t < r .plan .slots
-  pub slot : report .slot ≡ r .t
-  pub fits : kindFits (chosen r) (report .kind) ≡ true
 
 -- the answer of a step is that of its report
 accepted-report : (r : Run) (report : Report) → step r report .answer ≡ Accepted → accepted (reportAnswer r report) ≡ true
@@ -82,17 +77,6 @@ unfolding choose canGoOn accepted
 choose-accepted r whole more = rw (whole, lt-ltb (r .t) (r .plan .slots) more)
 
 -- ---- the record of a run that comes from a start
-
--- everything that coherence asks, and more: the record's own lengths, and rows that are the fresh ones as lists
-pub record Recorded (r : Run) : Type 0 where
-  pub well : accepted (wellFormed (r .plan)) ≡ true
-  pub sized : Sized (r .plan)
-  pub order : InOrder (r .plan)
-  pub long : length (r .job) ≡ maxJobs
-  pub time : r .t ≤ r .plan .slots
-  pub holds : (k : ℕ) → JobOf (r .plan) k → standingHolds (r .t) (jobNo (r .plan) k .hi) (entryNo r k .given) (entryNo r k .standing) ≡ true
-  pub hi : r .hi ≡ freshHi r
-  pub lo : r .lo ≡ freshLo r
 
 -- every row is the same as itself
 same-spare : (z : ℤ) → sameSpare z z ≡ true

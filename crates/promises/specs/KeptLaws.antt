@@ -1,29 +1,23 @@
--- The run's invariant: what every run that comes from an accepted plan keeps from slot to slot, proved step by step from the acceptance promise.
--- Jobs are counted here by their place, from 0, as in the acceptance promise.
-use Prim.Native.Nat.{ℕ, zero, suc, _+_, _-_, _≤_, _<_}
-use native.Mathlib.Nat.{not-suc-le-zero, le-of-suc-le-suc}
+-- The run's invariant holds at the start and is kept by every accepted step: proved phase by phase from the acceptance promise.
+use Prim.Native.Nat.{ℕ, suc, _+_, _-_, _≤_, _<_}
 use native.Mathlib.Decide.{decLe, ℕ-discrete}
 use native.Mathlib.Omega.{arith}
 use mathlib.Core.Path.{_≡_, refl, sym, ap, _∙_}
 use mathlib.Core.Logic.{⊎-elim}
-use mathlib.Core.Bool.{Bool, true, false, not, _&&_, false≢true}
-use mathlib.Core.List.{List, [], _∷_}
+use mathlib.Core.Bool.{Bool, true, false}
+use mathlib.Core.List.{List}
 use lib.IntN.{ℤ}
 use lib.ListN.{length, getD, getD-replicate}
-use lib.Seq.{getD-take, length-take-le}
-use borrow.Author.Tests.{leb-true, leb-false, not-true, eq-eqb, ne-eqb}
-use Rattle.plan.specs.declared.Job.{Job}
-use Rattle.plan.specs.declared.Plan.{Plan}
-use Rattle.words.specs.Words.{if_then_else_, _≤?_, _=?_, above0}
+use borrow.Author.Tests.{eq-eqb, ne-eqb}
+use Rattle.words.specs.Words.{if_then_else_, _=?_, above0}
 use Rattle.windows.specs.Windows.{InTime, Feasible}
 use Rattle.windows.specs.WindowLaws.{met, in-time-mono}
+use Rattle.plan.specs.declared.Plan.{Plan}
 use Rattle.plan.specs.Limits.{maxJobs}
-use Rattle.plan.specs.CountLaws.{counts-length, counts-at}
-use Rattle.plan.specs.Plan.{jobsOf, jobNo, isHi, blankJob, tableAt, countsAt}
+use Rattle.plan.specs.Plan.{jobNo, isHi, blankJob, tableAt}
 use Rattle.intervals.specs.Spares.{row, current, hiLeft}
-use Rattle.acceptance_promise.specs.Promise.{jobAt, windowsOf, tab, InOrder, A2}
+use Rattle.acceptance_promise.specs.Promise.{jobAt, windowsOf, InOrder, A2}
 use Rattle.acceptance_promise.specs.CountLaws.{tab-start}
-use Rattle.acceptance_promise.specs.RefusalLaws.{both-true}
 use Rattle.acceptance_promise.specs.SpareLaws.{above-exactly}
 use Rattle.acceptance_promise.specs.OneSlot.{hiRemaining, OnTable, SlotTo, TableFirst, NoHiReady}
 use Rattle.acceptance_promise.specs.OneSlotLaws.{high-met, stays-on-table, table-feasible, overrun-feasible, earliest-feasible, nobody-feasible, spare-feasible}
@@ -31,102 +25,20 @@ use Rattle.executive.specs.declared.Entry.{Entry}
 use Rattle.executive.specs.declared.Phase.{Phase}
 use Rattle.executive.specs.declared.Phase.the-variants.{T, H}
 use Rattle.executive.specs.declared.Run.{Run}
-use Rattle.executive.specs.declared.Slot.{Slot}
 use Rattle.executive.specs.declared.Report.{Report}
-use Rattle.executive.specs.Run.{live, entryNo, freshEntry, freshHi, hiWork, currentHi, newRun}
+use Rattle.executive.specs.Run.{live, freshEntry, freshHi, hiWork, currentHi, newRun}
 use Rattle.executive.specs.ZipLaws.{zipped-at}
 use Rattle.executive.specs.Coherent.{standingHolds}
 use Rattle.executive.specs.Choice.{chosen, earliest, ready, readyHi}
-use Rattle.executive.specs.Step.{pastLo, overrun, settled, everySettled, canReturn, phaseAfter, nextRun}
+use Rattle.executive.specs.Step.{overrun, canReturn, phaseAfter, nextRun}
 use Rattle.promises.specs.Demands.{JobOf, jobRun}
+use Rattle.promises.specs.Runs.{entryAfter, Taken, Recorded, entryAt, givenAt, liveAt, Kept}
+use Rattle.promises.specs.Chosen.{Ready}
 use Rattle.promises.specs.EarliestLaws.{leads-deadline}
-use Rattle.promises.specs.ChosenLaws.{Ready, in-phase-T, in-phase-H, earliest-ready-hi}
-use Rattle.promises.specs.NextLaws.{next-plan, next-t, next-phase, next-length, entryAfter, given-after, live-after, low-after, live-fewer}
-use Rattle.promises.specs.RecordLaws.{Taken, Recorded, js-fit, es-fit, chosen-is-ready, own-slot, next-entry}
-
--- the entry at place k: the slots that job has been given, and whether it is live
-abbrev pub entryAt : Run → ℕ → Entry
-entryAt r k = getD (r .job) k freshEntry
-
-abbrev pub givenAt : Run → ℕ → ℕ
-givenAt r k = entryAt r k .given
-
-abbrev pub liveAt : Run → ℕ → Bool
-liveAt r k = live (entryAt r k)
-
--- I2 to I5 of every border
-pub record Kept (p : Plan) (r : Run) : Type 0 where
-  -- no job has a slot before its release
-  pub begun : (k : ℕ) → k < p .jobs → 0 < givenAt r k → jobAt p k .release < r .t
-  -- no window of the HI work left is overfull
-  pub room : Feasible (windowsOf p) (r .t) (hiRemaining p (givenAt r) (liveAt r))
-  -- in phase T every live job has been given its table slots, and every live HI job fewer than lo
-  pub table : r .phase ≡ T → OnTable p (r .t) (givenAt r) (liveAt r)
-  -- no LO job is live at its deadline
-  pub expiry : (k : ℕ) → k < p .jobs → isHi (jobAt p k) ≡ false → liveAt r k ≡ true → r .t < jobAt p k .deadline
-
--- ---- places and numbers
-
-number-place : (k : ℕ) → suc k - 1 ≡ k
-number-place k = omega arith
-
-pub job-of-place : (p : Plan) (k : ℕ) → k < p .jobs → JobOf p (suc k)
-job-of-place p k l = (omega arith, l)
-
--- ---- overruns and the return test
-
-phases-differ : H ≡ T → ⊥
-phases-differ e = let z : _≡_ {A = ℕ} 0 1 = cc in omega arith
-
--- a live HI job that is not past its lo
-past-lo-no : (j : Job) (e : Entry) → pastLo j e ≡ false → live e ≡ true → isHi j ≡ true → e .given < j .lo
-unfolding pastLo
-past-lo-no j e h alive high = leb-false (j .lo) (e .given) (rw (alive, high) at h)
-
--- an overrun is of a HI job
-past-lo-high : (j : Job) (e : Entry) → pastLo j e ≡ true → isHi j ≡ true
-unfolding pastLo
-past-lo-high j e h = both-true (live e) (isHi j) (both-true (live e && isHi j) (j .lo ≤? e .given) h .0) .1
-
-overrun-of : (s : Run) (slot : Slot) (k : ℕ) → slot ≡ Slot.Job (suc k) → overrun s slot ≡ pastLo (jobAt (s .plan) k) (entryAt s k)
-unfolding overrun
-overrun-of s slot k e = ap (overrun s) e ∙ (rw (number-place k))
-
-overrun-job : (s : Run) (slot : Slot) → overrun s slot ≡ true → (m : ℕ) × (slot ≡ Slot.Job m) × (isHi (jobNo (s .plan) m) ≡ true)
-unfolding overrun
-overrun-job s Slot.Idle h = absurd (false≢true h)
-overrun-job s (Slot.Job m) h = (m, refl, past-lo-high (jobNo (s .plan) m) (entryNo s m) h)
-
--- the return test says it job by job
-every-settled : (js : List Job) (es : List Entry) (cs : List ℕ) → everySettled js es cs ≡ true
-    → (i : ℕ) → i < length js → i < length es → i < length cs → settled (getD js i blankJob) (getD es i freshEntry) (getD cs i 0) ≡ true
-unfolding everySettled
-every-settled [] es cs h i a b c = absurd (not-suc-le-zero a)
-every-settled (j ∷ js) [] cs h i a b c = absurd (not-suc-le-zero b)
-every-settled (j ∷ js) (e ∷ es) [] h i a b c = absurd (not-suc-le-zero c)
-every-settled (j ∷ js) (e ∷ es) (x ∷ cs) h zero a b c = both-true (settled j e x) (everySettled js es cs) h .0
-every-settled (j ∷ js) (e ∷ es) (x ∷ cs) h (suc i) a b c =
-    every-settled js es cs (both-true (settled j e x) (everySettled js es cs) h .1) i (le-of-suc-le-suc a) (le-of-suc-le-suc b) (le-of-suc-le-suc c)
-
-settled-says : (j : Job) (e : Entry) (count : ℕ) → settled j e count ≡ true → live e ≡ true → (count ≤ e .given) × (isHi j ≡ true → e .given < j .lo)
-unfolding settled
-settled-says j e count h alive =
-    let w = both-true (count ≤? e .given) (not (pastLo j e)) (rw alive at h) in
-    (leb-true count (e .given) (w .0), λ high. past-lo-no j e (not-true (pastLo j e) (w .1)) alive high)
-
--- a run that can return is on the table
-return-on-table : (s : Run) → s .plan .jobs ≤ length (s .plan .job) → s .plan .jobs ≤ length (s .job) → s .plan .jobs ≤ maxJobs
-    → canReturn s ≡ true → OnTable (s .plan) (s .t) (givenAt s) (liveAt s)
-unfolding canReturn
-return-on-table s a b c h = record { ahead = λ k l alive. says k l alive .0; early = λ k l alive high. says k l alive .1 high }
-  where
-    says : (k : ℕ) → k < s .plan .jobs → liveAt s k ≡ true → (tab (s .plan) k (s .t) ≤ givenAt s k) × (isHi (jobAt (s .plan) k) ≡ true → givenAt s k < jobAt (s .plan) k .lo)
-    says k l alive =
-        let x : k < length (jobsOf (s .plan)) = rw (length-take-le (s .plan .jobs) (s .plan .job) a) l in
-        let y : k < length (countsAt (s .plan) (s .t)) = rw (counts-length (s .plan) (s .t)) (omega arith) in
-        let e : 1 + k ≡ suc k = omega arith in
-        let q = every-settled (jobsOf (s .plan)) (s .job) (countsAt (s .plan) (s .t)) h k x (omega arith) y in
-        settled-says (jobAt (s .plan) k) (entryAt s k) (tab (s .plan) k (s .t)) (rw (getD-take (s .plan .jobs) (s .plan .job) k blankJob l, counts-at (s .plan) (s .t) k (omega arith), e) at q) alive
+use Rattle.promises.specs.ChosenLaws.{in-phase-T, in-phase-H, earliest-ready-hi}
+use Rattle.promises.specs.NextLaws.{next-plan, next-t, next-phase, next-length, given-after, live-after, low-after, live-fewer}
+use Rattle.promises.specs.RecordLaws.{js-fit, es-fit, chosen-is-ready, own-slot, next-entry}
+use Rattle.promises.specs.PhaseLaws.{number-place, job-of-place, phases-differ, past-lo-no, overrun-of, overrun-job, return-on-table}
 
 -- ---- the record, by places
 
@@ -182,7 +94,7 @@ module _ (r : Run) (w : Recorded r) (report : Report) (ok : Taken r report) wher
   next-fits : next .plan .jobs ≤ length (next .job)
   next-fits = rw (next-plan r (chosen r) (report .kind), next-length r (chosen r) (report .kind)) (es-fit r w)
 
-  -- I2 after the slot
+  -- no job has a slot before its release
   begun-next : ((k : ℕ) → k < r .plan .jobs → 0 < givenAt r k → jobAt (r .plan) k .release < r .t)
       → (k : ℕ) → k < r .plan .jobs → 0 < givenAt next k → jobAt (r .plan) k .release < r .t + 1
   begun-next begun k l some = go (ℕ-discrete who (suc k))
@@ -191,7 +103,7 @@ module _ (r : Run) (w : Recorded r) (report : Report) (ok : Taken r report) wher
       go (yes e) = let c = chosen-at k e .2 in omega arith
       go (no e) = let b = begun k l (rw (slot-to .others k l e) at some) in omega arith
 
-  -- I5 after the slot
+  -- no LO job is live at its deadline
   expiry-next : (k : ℕ) → k < r .plan .jobs → isHi (jobAt (r .plan) k) ≡ false → liveAt next k ≡ true → r .t + 1 < jobAt (r .plan) k .deadline
   expiry-next k l low h = low-after (r .t + 1) (jobAt (r .plan) k) (who =? suc k) (report .kind) (entryAt r k) (alive-next k l h) low
 
@@ -221,7 +133,7 @@ module _ (r : Run) (w : Recorded r) (report : Report) (ok : Taken r report) wher
       same : (m : ℕ) → isHi (jobNo (next .plan) m) ≡ true → isHi (jobNo (r .plan) m) ≡ true
       same m q = rw (next-plan r (chosen r) (report .kind)) at q
 
-  -- I3 and I4 after the slot
+  -- no window is overfull, and a run in phase T is on the table
   abbrev Goes : Type 0
   Goes = Feasible (windowsOf (r .plan)) (r .t + 1) (hiRemaining (r .plan) (givenAt next) (liveAt next)) × (next .phase ≡ T → OnTable (r .plan) (r .t + 1) (givenAt next) (liveAt next))
 
