@@ -18,3 +18,4 @@ pub mod History
 pub mod DeadlineLaws
 pub mod Deadlines
 pub mod Shams
+pub mod Examples
