@@ -189,8 +189,8 @@ fn read_slots(text: &[u8], at: usize, count: usize, line: u16) -> SlotsRead
     let mut table = [0u16; plan::SLOTS];
     let mut next = at;
     let mut l = line;
-    let mut i = 0;
-    while i < count {
+    let mut t = 0;
+    while t < count {
         let NumberAt::Got(entry, after) = slot_field(text, next) else {
             return SlotsRead {
                 answer: Answer::Form(l),
@@ -198,10 +198,10 @@ fn read_slots(text: &[u8], at: usize, count: usize, line: u16) -> SlotsRead
                 next: 0,
             };
         };
-        table[i] = entry;
+        table[t] = entry;
         next = after;
         l += 1;
-        i += 1;
+        t += 1;
     }
     SlotsRead {
         answer: Answer::Accepted,

@@ -1,4 +1,4 @@
--- `reader::read_slots` meets its contract. The invariant: i slots stand in the table, the rest is 0, one line to each.
+-- `reader::read_slots` meets its contract. The invariant: t slots stand in the table, the rest is 0, one line to each.
 use mathlib.Core.Path.{sym, _∙_}
 use Prim.Native.Nat.{_+_, _-_}
 use native.Mathlib.Omega.{arith}
@@ -12,10 +12,10 @@ use Rattle.plan_text.proofs.reader.read_slots.Statement.{statement}
 use Rattle.plan_text.proofs.reader.read_slots.Tie as tie
 
 abbrev Inv-loop : tie.InvT-loop
-Inv-loop text at count line table₀ next₀ l₀ i₀ table next l i = FillingAt (field number "slot=") 1 maxSlots 0 count text at line table next l i
+Inv-loop text at count line table₀ next₀ l₀ t₀ table next l t = FillingAt (field number "slot=") 1 maxSlots 0 count text at line table next l t
 
 abbrev μ-loop : tie.MeasureT-loop
-μ-loop text at count line table₀ next₀ l₀ i₀ table next l i = count - i
+μ-loop text at count line table₀ next₀ l₀ t₀ table next l t = count - t
 
 loop-holds : tie.Need-loop-holds Inv-loop μ-loop
 loop-holds c = filling-at-starts (field number "slot=") 1 maxSlots 0 _ _ _ _ (c .before .pre .1 .1)
@@ -47,8 +47,8 @@ array-write-table c = omega arith
 add-l : tie.Need-add-l Inv-loop μ-loop
 add-l c = omega arith
 
-add-i : tie.Need-add-i Inv-loop μ-loop
-add-i c = omega arith
+add-t : tie.Need-add-t Inv-loop μ-loop
+add-t c = omega arith
 
 loop-less : tie.Need-loop-less Inv-loop μ-loop
 loop-less c = omega arith
@@ -82,7 +82,7 @@ read-slots-spec =
     mul-table
     array-write-table
     add-l
-    add-i
+    add-t
     loop-less
     loop-again
     returns-2)
