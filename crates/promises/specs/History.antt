@@ -1,11 +1,14 @@
 -- Demand 2: over every sequence of accepted reports the run is what its history says. Proved by induction on the sequence from the laws of one step.
 use Prim.Native.Nat.{ℕ, suc, _+_, _<_}
+use native.Mathlib.Nat.{not-suc-le-zero}
+use native.Mathlib.Decide.{decLt}
 use native.Mathlib.Omega.{arith}
 use mathlib.Core.Path.{_≡_, refl, sym, ap, _∙_, subst}
 use mathlib.Core.Logic.{⊎-elim, _↔_}
 use mathlib.Core.Bool.{Bool, true, false}
 use mathlib.Core.List.{List, [], _∷_, _++_}
-use lib.ListN.{length, length-append}
+use lib.ListN.{length, length-append, drop-of-length-le}
+use lib.Seq.{take-append-le, drop-append-le, take-append-seam, drop-append-seam}
 use Rattle.words.specs.Words.{if_then_else_, _=?_}
 use Rattle.answers.specs.declared.Answer.the-variants.{Accepted, Incoherent}
 use Rattle.plan.specs.declared.Job.{Job}
@@ -24,7 +27,7 @@ use Rattle.executive.specs.declared.Kind.{Kind}
 use Rattle.executive.specs.declared.Kind.the-variants.{More, None}
 use Rattle.executive.specs.declared.Stepped.{Stepped}
 use Rattle.promises.specs.Demands.{JobOf, jobRun, Event, event, jobsRun, firstEnd, Reached, started, stepped, standsAfter, told, Demand2}
-use Rattle.promises.specs.Runs.{leftAlone, fed, fedBy, Recorded}
+use Rattle.promises.specs.Runs.{SlotOf, leftAlone, fed, fedBy, Recorded}
 use Rattle.promises.specs.Refused.{coherent-not-refused-10, taken-or-same}
 use Rattle.promises.specs.NextLaws.{next-plan, next-t, given-after, stands-after}
 use Rattle.promises.specs.RecordLaws.{next-run, taken, taken-accepted, choose-accepted, recorded-coherent, own-live, next-entry, next-recorded, start-accepted, start-run, accepted-well-formed, fresh-at, start-recorded}
@@ -195,3 +198,37 @@ pub never-stuck : {p : Plan} {h : List Event} {r : Run} → Reached p h r → r 
 never-stuck {r = r} q more =
     let report : Report = record { slot = r .t; kind = fitting (chosen r) } in
     (report, reached-accepts q more report .1 (refl, fitting-fits (chosen r)))
+
+-- ---- slot by slot
+
+-- an event more at the end changes no slot before
+slot-before : (p : Plan) (h : List Event) (e : Event) (i : ℕ) → i < length h → SlotOf p h i → SlotOf p (h ++ e ∷ []) i
+slot-before p h e i l (before, report, q, ok, here) = (
+  before,
+  report,
+  rw (take-append-le i h (e ∷ []) (omega arith)) q,
+  ok,
+  drop-append-le i h (e ∷ []) (omega arith) ∙ ap (λ (x : List Event). x ++ e ∷ []) here ∙ ap {B = List Event} (λ x. event before report ∷ x) (sym (drop-append-le (suc i) h (e ∷ []) l)),
+)
+
+-- every slot of a reached run's history is such
+pub every-slot : {p : Plan} {h : List Event} {r : Run} → Reached p h r → (i : ℕ) → i < length h → SlotOf p h i
+every-slot (started sz e) i l = absurd (not-suc-le-zero l)
+every-slot {p} (stepped {h = h} {r = r} report q e) i l = go (decLt i (length h)) (λ m. every-slot q i m)
+  where
+    now : Event
+    now = event r report
+
+    last : i ≡ length h → SlotOf p (h ++ now ∷ []) i
+    last same =
+        rw same (
+          r,
+          report,
+          rw (take-append-seam h (now ∷ [])) q,
+          taken r report e,
+          drop-append-seam h (now ∷ []) ∙ ap {B = List Event} (λ x. now ∷ x) (sym (drop-of-length-le (h ++ now ∷ []) {i = suc (length h)} (let long = length-append h (now ∷ []) in omega arith))),
+        )
+
+    go : Dec (i < length h) → (i < length h → SlotOf p h i) → SlotOf p (h ++ now ∷ []) i
+    go (yes m) earlier = slot-before p h now i m (earlier m)
+    go (no m) earlier = last (let long = length-append h (now ∷ []) in omega arith)

@@ -1,10 +1,10 @@
 -- What the theorems say of runs: when a report is taken, any sequence of reports, and what every run that comes from a start keeps. Definitions only.
 -- In the invariant jobs are counted by their place, from 0, as in the acceptance promise.
-use Prim.Native.Nat.{ℕ, _≤_, _<_}
+use Prim.Native.Nat.{ℕ, suc, _≤_, _<_}
 use mathlib.Core.Path.{_≡_}
 use mathlib.Core.Bool.{Bool, true, false, not, _&&_}
 use mathlib.Core.List.{List, [], _∷_}
-use lib.ListN.{length, getD}
+use lib.ListN.{length, take, drop, getD}
 use Rattle.words.specs.Words.{if_then_else_, _≤?_}
 use Rattle.answers.specs.Answer.{accepted}
 use Rattle.windows.specs.Windows.{Feasible}
@@ -27,7 +27,7 @@ use Rattle.executive.specs.Coherent.{standingHolds, coherent}
 use Rattle.executive.specs.Choice.{chosen}
 use Rattle.executive.specs.Step.{ranOn, expiredEntry, kindFits, step}
 use Rattle.executive.specs.declared.Stepped.{Stepped}
-use Rattle.promises.specs.Demands.{JobOf, Sized}
+use Rattle.promises.specs.Demands.{JobOf, Sized, Event, event, Reached}
 
 -- ---- one step
 
@@ -63,6 +63,11 @@ fed r (report ∷ reports) = fed (step r report .run) reports
 unfoldable pub fedBy : (Run → Report → Stepped) → Run → List Report → Run
 fedBy mine r [] = r
 fedBy mine r (report ∷ reports) = fedBy mine (mine r report .run) reports
+
+-- slot i of a history: before it there was a run, reached by the slots before, that took a report;
+-- the event is that run's phase, what the rules chose for it and what was reported
+abbrev pub SlotOf : Plan → List Event → ℕ → Type 0
+SlotOf p h i = (before : Run) × (report : Report) × Reached p (take i h) before × Taken before report × (drop i h ≡ event before report ∷ drop (suc i) h)
 
 -- ---- what runs keep
 
