@@ -14,6 +14,8 @@ use Rattle.executive.specs.declared.Run.{Run}
 use Rattle.executive.specs.declared.Slot.{Slot}
 use Rattle.executive.specs.declared.Kind.the-variants.{More}
 use Rattle.executive.specs.declared.Report.{Report}
+use Rattle.executive.specs.declared.Choice.{Choice}
+use Rattle.executive.specs.declared.Stepped.{Stepped}
 use Rattle.executive.specs.Run.{start, entryNo, freshEntry, freshHi, freshLo}
 use Rattle.executive.specs.Choice.{choose}
 use Rattle.executive.specs.Step.{step}
@@ -44,38 +46,42 @@ accepts-every-plan sham accepts same =
 -- ---- the choice
 
 -- one that always idles: slot 0 of A is job 2's
-pub always-idles : ((r : Run) → choose r .slot ≡ Slot.Idle) → ⊥
+pub always-idles : (sham : Run → Choice) → ((r : Run) → sham r .slot ≡ Slot.Idle) → ((r : Run) → sham r ≡ choose r) → ⊥
 unfolding everything
-always-idles same =
-    let w : Slot.Job 2 ≡ Slot.Idle = same (start A .run) in
-    let z : _≡_ {A = ℕ} 0 1 = cc w in
+always-idles sham idles same =
+    let first : sham (start A .run) .slot ≡ Slot.Job 2 = ap (λ (c : Choice). c .slot) (same (start A .run)) in
+    let idle = idles (start A .run) in
+    let z : _≡_ {A = ℕ} 0 1 = cc (first, idle) in
     omega arith
 
 -- one that always names the same job: slots 0 and 1 of A are job 2's and job 1's
-pub always-one-job : (k : ℕ) → ((r : Run) → choose r .slot ≡ Slot.Job k) → ⊥
+pub always-one-job : (sham : Run → Choice) (k : ℕ) → ((r : Run) → sham r .slot ≡ Slot.Job k) → ((r : Run) → sham r ≡ choose r) → ⊥
 unfolding everything goneOn
-always-one-job k same =
-    let first : Slot.Job 2 ≡ Slot.Job k = same (start A .run) in
-    let second : Slot.Job 1 ≡ Slot.Job k = same (after A (More ∷ [])) in
-    let z : _≡_ {A = ℕ} 2 1 = cc (first, second) in
+always-one-job sham k names same =
+    let first : sham (start A .run) .slot ≡ Slot.Job 2 = ap (λ (c : Choice). c .slot) (same (start A .run)) in
+    let second : sham (after A (More ∷ [])) .slot ≡ Slot.Job 1 = ap (λ (c : Choice). c .slot) (same (after A (More ∷ []))) in
+    let z : _≡_ {A = ℕ} 2 1 = cc (first, second, names (start A .run), names (after A (More ∷ []))) in
     omega arith
 
 -- ---- the step
 
 -- one that hands back the run untouched: t grows
-pub hands-back-the-run : ((r : Run) (report : Report) → step r report .run ≡ r) → ⊥
+pub hands-back-the-run : (sham : Run → Report → Stepped) → ((r : Run) (report : Report) → sham r report .run ≡ r) → ((r : Run) (report : Report) → sham r report ≡ step r report) → ⊥
 unfolding everything
-hands-back-the-run same =
-    let w : _≡_ {A = ℕ} 1 0 = ap (λ (r : Run). r .t) (same (start A .run) (record { slot = 0; kind = More })) in
+hands-back-the-run sham untouched same =
+    let report : Report = record { slot = 0; kind = More } in
+    let grown : sham (start A .run) report .run .t ≡ 1 = ap (λ (s : Stepped). s .run .t) (same (start A .run) report) in
+    let still : sham (start A .run) report .run .t ≡ 0 = ap (λ (r : Run). r .t) (untouched (start A .run) report) in
     omega arith
 
 -- one that works slot 0 properly and only advances the clock later: slot 1 of A is given to job 1
-pub only-advances-the-clock : ((r : Run) (report : Report) → 1 ≤ r .t → step r report .run .job ≡ r .job) → ⊥
+pub only-advances-the-clock : (sham : Run → Report → Stepped) → ((r : Run) (report : Report) → 1 ≤ r .t → sham r report .run .job ≡ r .job) → ((r : Run) (report : Report) → sham r report ≡ step r report) → ⊥
 unfolding everything goneOn
-only-advances-the-clock same =
-    let after-1 : Run = after A (More ∷ []) in
-    let later : step after-1 (record { slot = 1; kind = More }) .run .job ≡ after-1 .job = same after-1 (record { slot = 1; kind = More }) (omega arith) in
-    let w : _≡_ {A = ℕ} 1 0 = ap (λ (es : List Entry). getD es 0 freshEntry .given) later in
+only-advances-the-clock sham idle same =
+    let later : Run = after A (More ∷ []) in
+    let report : Report = record { slot = 1; kind = More } in
+    let given : getD (sham later report .run .job) 0 freshEntry .given ≡ 1 = ap (λ (s : Stepped). getD (s .run .job) 0 freshEntry .given) (same later report) in
+    let none : getD (sham later report .run .job) 0 freshEntry .given ≡ 0 = ap (λ (es : List Entry). getD es 0 freshEntry .given) (idle later report (omega arith)) in
     omega arith
 
 -- ---- whole sequences of reports
