@@ -1,0 +1,11 @@
+// The sums that are run: limits, bad texts, records that no text has, and reports out of turn.
+// One line for each case; the file stdout has what they should be.
+mod print;
+mod texts;
+
+fn main() {
+    texts::limits();
+    texts::bad_numbers();
+    texts::bad_lines();
+    texts::cut_at_every_byte();
+}
