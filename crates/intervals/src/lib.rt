@@ -52,10 +52,10 @@ pub fn hi_left(j: Job, live: bool, given: u16) -> u16
         return 0;
     }
     let level = j.level;
-    let Level::Hi = level else {
-        return 0;
-    };
-    left(j.hi, given)
+    match level {
+        Level::Lo => 0,
+        Level::Hi => left(j.hi, given),
+    }
 }
 
 // The work a job asks of the LO spares: every live job, of either level.

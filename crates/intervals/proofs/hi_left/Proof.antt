@@ -1,7 +1,7 @@
 -- `intervals::hi_left` meets its contract: by whether the job is live, then by its level.
-use borrow.Author.Needs.{needs}
 use borrow.Author.Tests.{not-true, not-false}
 use Rattle.intervals.specs.Spares.{hiLeft}
+use borrow.Author.Needs.{needs}
 use Rattle.intervals.proofs.hi_left.Statement.{statement}
 use Rattle.intervals.proofs.hi_left.Tie as tie
 
@@ -15,19 +15,19 @@ enum-told c = search needs
 enum-told-2 : tie.Need-enum-told-2
 enum-told-2 c = search needs
 
-returns-2 : tie.Need-returns-2
-unfolding hiLeft
-returns-2 c = rw (not-false (c .before .before .before .args .live) (c .before .before .if1 .left), c .enum-told2 .given .1)
-
 left-requires : tie.Need-left-requires
 left-requires c κs = search needs
+
+returns-2 : tie.Need-returns-2
+unfolding hiLeft
+returns-2 c = rw (not-false (c .before .before .before .args .live) (c .before .before .if1 .left), c .enum-told .given .1)
 
 returns-3 : tie.Need-returns-3
 unfolding hiLeft
 returns-3 c =
     rw
-    (not-false (c .before .before .before .before .args .live) (c .before .before .before .if1 .left), c .before .enum-told .given .1)
+    (not-false (c .before .before .before .before .args .live) (c .before .before .before .if1 .left), c .before .enum-told2 .given .1)
     (c .left .ensures)
 
 pub hi-left-spec : {M : Type 1} → statement M
-hi-left-spec = tie.close (tie.spec returns enum-told enum-told-2 returns-2 left-requires returns-3)
+hi-left-spec = tie.close (tie.spec returns enum-told enum-told-2 left-requires returns-2 returns-3)
