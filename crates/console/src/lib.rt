@@ -1,1 +1,2 @@
 // What the two programs read and print, as functions on bytes and runs. Input and output themselves are in check_plan and run_plan.
+mod print;
