@@ -1,7 +1,7 @@
 -- Laws of the distinct deadlines, least first: they rise, and the next one above a border is the least of all numbers above it, whatever their order.
 -- Nothing here is of jobs but their windows; the intervals made of the deadlines are in IntervalLaws.
 use Prim.Native.Nat.{ℕ, suc, _≤_, _<_, min}
-use mathlib.Core.Path.{_≡_, refl, sym, ap, _∙_}
+use mathlib.Core.Path.{_≡_, refl, ap, _∙_}
 use mathlib.Core.Bool.{Bool, true, false, _&&_}
 use mathlib.Core.List.{List, [], _∷_, map}
 use native.Mathlib.Omega.{arith}
@@ -14,7 +14,7 @@ use Rattle.plan.specs.declared.Plan.{Plan}
 use Rattle.plan.specs.Limits.{maxSlots, maxJobs, oneTo}
 use Rattle.plan.specs.Plan.{jobsOf}
 use Rattle.plan.specs.Rules.{windowHolds, windowsHold}
-use Rattle.intervals.specs.Intervals.{insert, rising, leastRelease, deadlines}
+use Rattle.intervals.specs.Intervals.{insert, rising, deadlines}
 
 -- ---- what windows that hold give
 

@@ -1,7 +1,7 @@
 -- Laws of a plan's intervals, its windows holding: they cover 0 to N, every deadline is an end, none lies inside an interval,
 -- they are at most maxIntervals, and at border t < N the current one holds slot t. How deadlines rise is in DeadlineLaws.
 use Prim.Native.Nat.{ℕ, zero, suc, _+_, _*_, _≤_, _<_, max, min}
-use mathlib.Core.Path.{_≡_, refl, sym, ap, _∙_}
+use mathlib.Core.Path.{_≡_, refl}
 use mathlib.Core.Logic.{_⊎_, inl, inr, ⊎-elim}
 use mathlib.Core.Bool.{Bool, true, false}
 use mathlib.Core.List.{List, [], _∷_, _++_, map, List·Memᴰ, List·Memᴰ·head, List·Memᴰ·tail, List·Memᴰ·cases-cons, List·Memᴰ·not-nil}
@@ -9,18 +9,17 @@ use native.Mathlib.Nat.{not-suc-le-zero, le-of-suc-le-suc}
 use native.Mathlib.Omega.{arith}
 use lib.ListN.{length, getD, drop, length-append}
 use borrow.Author.Tests.{lt-ltb, le-ltb, le-leb, lt-leb, eq-eqb, ne-eqb}
-use Rattle.words.specs.Words.{if_then_else_, _≤?_, _<?_, _=?_}
+use Rattle.words.specs.Words.{if_then_else_, _<?_, _=?_}
 use Rattle.words.specs.Cases.{by-less, by-equal}
 use Rattle.plan.specs.declared.Job.{Job}
 use Rattle.plan.specs.declared.Plan.{Plan}
-use Rattle.plan.specs.Limits.{maxSlots, maxJobs}
 use Rattle.plan.specs.Plan.{jobsOf}
 use Rattle.plan.specs.Rules.{windowsHold}
 use Rattle.intervals.specs.declared.Interval.{Interval}
 use Rattle.intervals.specs.Intervals.{maxIntervals, insert, rising, leastRelease, gap, intervalsFrom, deadlines, intervals, past}
-use Rattle.intervals.specs.Layout.{blankInterval, placeOf}
+use Rattle.intervals.specs.Layout.{blankInterval}
 use Rattle.intervals.specs.RowLaws.{past-stop, past-more}
-use Rattle.intervals.specs.DeadlineLaws.{Windowed, WithinLimits, within-limits, Rises, rises-top, deadlines-rise, few-deadlines}
+use Rattle.intervals.specs.DeadlineLaws.{Windowed, within-limits, Rises, deadlines-rise, few-deadlines}
 
 -- the intervals cover a to b: each starts where the one before ends, and each has a length
 abbrev pub Covers : ℕ → List Interval → ℕ → Type 0

@@ -1,6 +1,6 @@
 -- Layouts as they are built: a list of intervals laid out with no job at home yet, one or two intervals added a turn.
 use Prim.Native.Nat.{ℕ, suc, _+_, _≤_, _<_, max, min}
-use mathlib.Core.Path.{_≡_, refl, sym, ap, _∙_}
+use mathlib.Core.Path.{_≡_, sym, ap, _∙_}
 use mathlib.Core.List.{List, [], _∷_, _++_, map, append-assoc, append-nil}
 use native.Mathlib.Omega.{arith}
 use lib.ListN.{length, take, set, replicate, length-append, length-map}

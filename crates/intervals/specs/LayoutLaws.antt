@@ -1,17 +1,17 @@
 -- A plan's own layout gives the plan's own row and current interval: the work at home in a place is the remaining work of the interval there,
 -- since the ends of intervals are distinct. Laws of the intervals alone are in IntervalLaws.
-use Prim.Native.Nat.{ℕ, zero, suc, _+_, _-_, _≤_, _<_}
+use Prim.Native.Nat.{ℕ, zero, suc, _+_, _-_, _<_}
 use mathlib.Core.Path.{_≡_, refl, sym, ap, _∙_}
-use mathlib.Core.Bool.{Bool, true, false}
+use mathlib.Core.Bool.{true, false}
 use mathlib.Core.List.{List, [], _∷_, _++_, map, List·Memᴰ, List·Memᴰ·cases-cons, List·Memᴰ·not-nil}
 use mathlib.Core.Logic.{⊎-elim}
 use native.Mathlib.Nat.{not-suc-le-zero, le-of-suc-le-suc}
 use native.Mathlib.Omega.{arith}
-use lib.IntN.{ℤ, pos}
-use lib.ListN.{length, getD, replicate}
+use lib.IntN.{pos}
+use lib.ListN.{length, replicate}
 use lib.Seq.{take-append-seam}
 use borrow.Author.Tests.{eq-eqb, ne-eqb}
-use Rattle.words.specs.Words.{if_then_else_, _=?_, filled}
+use Rattle.words.specs.Words.{_=?_, filled}
 use Rattle.words.specs.Cases.{by-test, by-equal}
 use Rattle.plan.specs.declared.Job.{Job}
 use Rattle.plan.specs.declared.Plan.{Plan}
@@ -20,7 +20,7 @@ use Rattle.plan.specs.Plan.{jobsOf}
 use Rattle.plan.specs.Rules.{windowsHold}
 use Rattle.intervals.specs.declared.Interval.{Interval}
 use Rattle.intervals.specs.Intervals.{maxIntervals, intervals, past}
-use Rattle.intervals.specs.Spares.{nextSpare, spare, remaining, spares, row}
+use Rattle.intervals.specs.Spares.{remaining, spares, row}
 use Rattle.intervals.specs.Layout.{blankInterval, placeOf, homes, layoutOf, listed, workAt, sparesFrom, rowIn, pastIn}
 use Rattle.intervals.specs.IntervalLaws.{Covers, ends, intervalAt, start-end-at, intervals-cover, few-intervals, no-intervals}
 

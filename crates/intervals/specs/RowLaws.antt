@@ -68,6 +68,14 @@ sums-start hs ws = record {
   small = λ i l. rw (getD-replicate {A = ℕ} maxIntervals i 0 0 l) (omega arith);
 }
 
+pub work-counted : (sums : List ℕ) (home work : ℕ) → home < maxIntervals → set sums home (getD sums home 0 + work) ≡ withWork sums home work
+unfolding withWork
+work-counted sums home work h = rw (lt-ltb home maxIntervals h)
+
+pub work-nowhere : (sums : List ℕ) (home work : ℕ) → maxIntervals ≤ home → sums ≡ withWork sums home work
+unfolding withWork
+work-nowhere sums home work h = rw (le-ltb home maxIntervals h)
+
 -- the sum of place i with one more job
 withWork-at : (sums : List ℕ) (home work i : ℕ) → length sums ≡ maxIntervals → i < maxIntervals → getD (withWork sums home work) i 0 ≡ getD sums i 0 + (if home =? i then work else 0)
 unfolding withWork

@@ -1,17 +1,17 @@
 // The intervals of a plan and the spares of its borders. Whether a plan is accepted is judged in acceptance.
 ghost use mathlib.Core.Path.{_≡_};
-ghost use Prim.Native.Nat.{ℕ, _+_, _*_, _-_, _≤_, _<_, max, min};
+ghost use mathlib.Core.List.{[], _∷_, _++_, map};
+ghost use Prim.Native.Nat.{_+_, _-_, _≤_, _<_, _^_, max, min};
+ghost use lib.ListN.{take};
 ghost use lib.IntN.{subℕ};
-ghost use lib.ListN.{length, take};
-ghost use mathlib.Core.List.{List, [], _∷_, _++_, map};
-ghost use Rattle.intervals.specs.Intervals.{maxIntervals, rising, leastRelease, gap, intervalsFrom, intervals};
 ghost use Rattle.words.specs.Words.{filled};
 ghost use Rattle.plan.specs.Limits.{maxSlots, maxJobs};
-ghost use Rattle.intervals.specs.DeadlineLaws.{Windowed, nearer, nextAbove, earlierRelease};
-ghost use Rattle.intervals.specs.Laid.{laid, RoomFor, added, allIntervals};
+ghost use Rattle.intervals.specs.Intervals.{maxIntervals, leastRelease, gap, intervals};
 ghost use Rattle.intervals.specs.Spares.{hiLeft, loLeft};
 ghost use Rattle.intervals.specs.Layout.{listed, placeOf, layoutOf, rowIn, pastIn};
-ghost use Rattle.intervals.specs.RowLaws.{SumsBelow, withWork, ByHome, room, asked};
+ghost use Rattle.intervals.specs.DeadlineLaws.{Windowed, nearer, nextAbove, earlierRelease};
+ghost use Rattle.intervals.specs.Laid.{laid, RoomFor, added, allIntervals};
+ghost use Rattle.intervals.specs.RowLaws.{ByHome, room, asked};
 use plan::Job;
 use plan::Level;
 use plan::Plan;
@@ -31,8 +31,17 @@ pub struct Layout {
     pub home: [u16; plan::JOBS],
 }
 
+// ---- numbers
+
 // a - b, not below 0.
 fn left(a: u16, b: u16) -> u16
+    ensures { λ r. ⌜ r ≡ a - b ⌝ }
+{
+    if b <= a { a - b } else { 0 }
+}
+
+// a - b, not below 0.
+fn over(a: u32, b: u32) -> u32
     ensures { λ r. ⌜ r ≡ a - b ⌝ }
 {
     if b <= a { a - b } else { 0 }
@@ -44,144 +53,29 @@ fn larger(a: u16, b: u16) -> u16
     if a <= b { b } else { a }
 }
 
-// The work a job asks of the HI spares: only a live HI job asks any.
-pub fn hi_left(j: Job, live: bool, given: u16) -> u16
-    ensures { λ r. ⌜ r ≡ hiLeft j live given ⌝ }
-{
-    if !live {
-        return 0;
-    }
-    let level = j.level;
-    match level {
-        Level::Lo => 0,
-        Level::Hi => left(j.hi, given),
-    }
-}
-
-// The work a job asks of the LO spares: every live job, of either level.
-pub fn lo_left(j: Job, live: bool, given: u16) -> u16
-    ensures { λ r. ⌜ r ≡ loLeft j live given ⌝ }
-{
-    if live { left(j.lo, given) } else { 0 }
-}
-
-// How many entries of a layout's array are its intervals, for any count.
-fn listed_count(count: u16) -> usize
-    ensures { λ r. ⌜ r ≡ min count maxIntervals ⌝ }
-{
-    let n = plan::wide(count);
-    if n <= INTERVALS { n } else { INTERVALS }
-}
-
-// How many entries of a plan's array are its jobs, for any n.
-fn listed_jobs(jobs: u16) -> usize
-    ensures { λ r. ⌜ r ≡ min jobs maxJobs ⌝ }
-{
-    let n = plan::wide(jobs);
-    if n <= plan::JOBS { n } else { plan::JOBS }
-}
-
-// How many intervals are past at border t: the next one is the current.
-pub fn past_of(l: Layout, t: u16) -> usize
-    ensures { λ r. ⌜ r ≡ pastIn l t ⌝ }
-{
-    let count = listed_count(l.count);
-    let interval = l.interval;
-    let mut i: usize = 0;
-    while i < count {
-        let x = interval[i];
-        if t < x.end {
-            return i;
-        }
-        i += 1;
-    }
-    i
-}
-
-// A place's sum with the work of one more job; a home beyond the last place counts nowhere.
-fn with_work(sums: [u32; INTERVALS], home: u16, work: u16) -> [u32; INTERVALS]
-    requires { ⌜ SumsBelow 1073741824 sums ⌝ }
-    ensures { λ r. ⌜ r ≡ withWork sums home work ⌝ }
-{
-    let place = home as usize;
-    let mut next = sums;
-    if place < INTERVALS {
-        next[place] = sums[place] + work as u32;
-    }
-    next
-}
-
-// The work at home in each place, in one pass over the jobs.
-fn work_by_home(home: [u16; plan::JOBS], work: [u16; plan::JOBS]) -> [u32; INTERVALS]
-    ensures { λ r. ⌜ ByHome home work r ⌝ }
-{
-    let mut sums = [0u32; INTERVALS];
-    let mut k: usize = 0;
-    while k < plan::JOBS {
-        let next = with_work(sums, home[k], work[k]);
-        sums = next;
-        k += 1;
-    }
-    sums
-}
-
-// What an interval has left at border t.
-fn room_left(x: Interval, t: u16) -> u32
-    ensures { λ r. ⌜ (r ≡ room t x) × (r < 65536) ⌝ }
-{
-    let from = larger(x.start, t);
-    left(x.end, from) as u32
-}
-
-// What is asked of an interval at border t: its work and the later ones' debt, nothing once it is past.
-fn asked_of(x: Interval, t: u16, work: u32, debt: u32) -> u32
-    requires { ⌜ work + debt < 1073741824 ⌝ }
-    ensures { λ r. ⌜ r ≡ asked t x work debt ⌝ }
-{
-    if x.end <= t { 0 } else { work + debt }
-}
-
-// a - b as a signed number.
-fn signed(a: u32, b: u32) -> i32
-    requires { ⌜ (a < 1073741824) × (b < 1073741824) ⌝ }
-    ensures { λ r. ⌜ r ≡ subℕ a b ⌝ }
-{
-    a as i32 - b as i32
-}
-
-// a - b, not below 0.
-fn over(a: u32, b: u32) -> u32
-    ensures { λ r. ⌜ r ≡ a - b ⌝ }
-{
-    if b <= a { a - b } else { 0 }
-}
-
-// The spares of a layout at border t for this work, a number a job. Worked out last first; the debt is what later intervals borrow.
-pub fn row_of(l: Layout, t: u16, work: [u16; plan::JOBS]) -> [i32; INTERVALS]
-    ensures { λ r. ⌜ r ≡ rowIn l t work ⌝ }
-{
-    let home = l.home;
-    let sums = work_by_home(home, work);
-    let interval = l.interval;
-    let mut row = [0i32; INTERVALS];
-    let mut debt: u32 = 0;
-    let mut i = listed_count(l.count);
-    while 0 < i {
-        i -= 1;
-        let x = interval[i];
-        let free = room_left(x, t);
-        let ask = asked_of(x, t, sums[i], debt);
-        row[i] = signed(free, ask);
-        debt = over(ask, free);
-    }
-    row
-}
-
 fn smaller(a: u16, b: u16) -> u16
     ensures { λ r. ⌜ r ≡ min a b ⌝ }
 {
     if a <= b { a } else { b }
 }
+
+// n, at most the limit: how many entries of an array a record's count takes.
+fn capped(n: u16, limit: usize) -> usize
+    ensures { λ r. ⌜ r ≡ min n limit ⌝ }
+{
+    let w = plan::wide(n);
+    if w <= limit { w } else { limit }
+}
+
+// a - b as a signed number.
+fn signed(a: u32, b: u32) -> i32
+    requires { ⌜ (a < 2 ^ 30) × (b < 2 ^ 30) ⌝ }
+    ensures { λ r. ⌜ r ≡ subℕ a b ⌝ }
+{
+    a as i32 - b as i32
+}
+
+// ---- intervals
 
 // Deadline d where it is above border m and before `next`, else `next`.
 fn nearer_deadline(m: u16, beyond: u16, d: u16, next: u16) -> u16
@@ -249,6 +143,7 @@ fn empty_layout() -> Layout
     }
 }
 
+// With one interval more.
 fn with_interval(l: Layout, start: u16, end: u16) -> Layout
     requires { ⌜ RoomFor l (record { start = start; end = end } ∷ []) ⌝ }
     ensures { λ r. ⌜ r ≡ laid (listed l ++ record { start = start; end = end } ∷ []) ⌝ }
@@ -314,7 +209,7 @@ fn plan_intervals(p: Plan) -> Layout
 fn place_of(l: Layout, e: u16) -> u16
     ensures { λ r. ⌜ r ≡ placeOf e (listed l) ⌝ }
 {
-    let count = listed_count(l.count);
+    let count = capped(l.count, INTERVALS);
     let interval = l.interval;
     let mut i: usize = 0;
     while i < count {
@@ -348,8 +243,101 @@ pub fn layout_of(p: Plan) -> Layout
 {
     let bare = plan_intervals(p);
     let job = p.job;
-    let home = homes_of(bare, job, listed_jobs(p.jobs));
+    let home = homes_of(bare, job, capped(p.jobs, plan::JOBS));
     let mut l = bare;
     l.home = home;
     l
+}
+
+// How many intervals are past at border t: the next one is the current.
+pub fn past_of(l: Layout, t: u16) -> usize
+    ensures { λ r. ⌜ r ≡ pastIn l t ⌝ }
+{
+    let count = capped(l.count, INTERVALS);
+    let interval = l.interval;
+    let mut i: usize = 0;
+    while i < count {
+        let x = interval[i];
+        if t < x.end {
+            return i;
+        }
+        i += 1;
+    }
+    i
+}
+
+// ---- spares
+
+// The work a job asks of the HI spares: only a live HI job asks any.
+pub fn hi_left(j: Job, live: bool, given: u16) -> u16
+    ensures { λ r. ⌜ r ≡ hiLeft j live given ⌝ }
+{
+    if !live {
+        return 0;
+    }
+    let level = j.level;
+    match level {
+        Level::Lo => 0,
+        Level::Hi => left(j.hi, given),
+    }
+}
+
+// The work a job asks of the LO spares: every live job, of either level.
+pub fn lo_left(j: Job, live: bool, given: u16) -> u16
+    ensures { λ r. ⌜ r ≡ loLeft j live given ⌝ }
+{
+    if live { left(j.lo, given) } else { 0 }
+}
+
+// The work at home in each place, in one pass over the jobs; a home beyond the last place counts nowhere.
+fn work_by_home(home: [u16; plan::JOBS], work: [u16; plan::JOBS]) -> [u32; INTERVALS]
+    ensures { λ r. ⌜ ByHome home work r ⌝ }
+{
+    let mut sums = [0u32; INTERVALS];
+    let mut k: usize = 0;
+    while k < plan::JOBS {
+        let place = plan::wide(home[k]);
+        if place < INTERVALS {
+            sums[place] += work[k] as u32;
+        }
+        k += 1;
+    }
+    sums
+}
+
+// What an interval has left at border t.
+fn room_left(x: Interval, t: u16) -> u32
+    ensures { λ r. ⌜ (r ≡ room t x) × (r < 65536) ⌝ }
+{
+    let from = larger(x.start, t);
+    left(x.end, from) as u32
+}
+
+// What is asked of an interval at border t: its work and the later ones' debt, nothing once it is past.
+fn asked_of(x: Interval, t: u16, work: u32, debt: u32) -> u32
+    requires { ⌜ work + debt < 2 ^ 30 ⌝ }
+    ensures { λ r. ⌜ r ≡ asked t x work debt ⌝ }
+{
+    if x.end <= t { 0 } else { work + debt }
+}
+
+// The spares of a layout at border t for this work, a number a job. Worked out last first; the debt is what later intervals borrow.
+pub fn row_of(l: Layout, t: u16, work: [u16; plan::JOBS]) -> [i32; INTERVALS]
+    ensures { λ r. ⌜ r ≡ rowIn l t work ⌝ }
+{
+    let home = l.home;
+    let sums = work_by_home(home, work);
+    let interval = l.interval;
+    let mut row = [0i32; INTERVALS];
+    let mut debt: u32 = 0;
+    let mut i = capped(l.count, INTERVALS);
+    while 0 < i {
+        i -= 1;
+        let x = interval[i];
+        let free = room_left(x, t);
+        let ask = asked_of(x, t, sums[i], debt);
+        row[i] = signed(free, ask);
+        debt = over(ask, free);
+    }
+    row
 }

@@ -10,11 +10,11 @@ add-result c = search needs
 
 returns : tie.Need-returns
 unfolding asked
-returns c = rw (le-leb _ _ (c .if1 .taken))
+returns c = rw (le-leb (c .before .before .args .x .end) (c .before .before .args .t) (c .if1 .taken))
 
 returns-2 : tie.Need-returns-2
 unfolding asked
-returns-2 c = rw (lt-leb _ _ (c .if1 .left))
+returns-2 c = rw (lt-leb (c .before .before .args .x .end) (c .before .before .args .t) (c .if1 .left))
 
 pub asked-of-spec : {M : Type 1} → statement M
 asked-of-spec = tie.close (tie.spec add-result returns returns-2)

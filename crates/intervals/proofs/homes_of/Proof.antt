@@ -1,9 +1,9 @@
 -- `intervals::homes_of` meets its contract. The loop's invariant: the homes of the first i jobs stand, the others have none.
 use Prim.Native.Nat.{_-_, _≤_}
-use mathlib.Core.Path.{_≡_, refl, _∙_, ap}
+use mathlib.Core.Path.{_≡_, refl}
 use mathlib.Core.List.{map}
 use native.Mathlib.Omega.{arith}
-use lib.ListN.{length, take, set}
+use lib.ListN.{length, take}
 use Rattle.words.specs.Words.{filled}
 use Rattle.words.specs.ListLaws.{long}
 use Rattle.words.specs.FilledLaws.{filled-map}

@@ -1,6 +1,6 @@
 -- `intervals::intervals_of` meets its contract. The loop's invariant: what is listed, and what the deadlines above the last end still add, are all;
 -- e is the least of those deadlines.
-use Prim.Native.Nat.{ℕ, suc, _+_, _-_, _≤_}
+use Prim.Native.Nat.{suc, _+_, _-_, _≤_}
 use native.Mathlib.Omega.{arith}
 use native.Mathlib.Numerals.{add-one}
 use mathlib.Core.Path.{_≡_}

@@ -11,8 +11,8 @@ use Rattle.intervals.proofs.layout_of.Tie as tie
 plan-intervals-requires : tie.Need-plan-intervals-requires
 plan-intervals-requires c κs = search needs
 
-listed-jobs-requires : tie.Need-listed-jobs-requires
-listed-jobs-requires c κs = search needs
+capped-requires : tie.Need-capped-requires
+capped-requires c κs = search needs
 
 homes-of-requires : tie.Need-homes-of-requires
 homes-of-requires c κs = search needs
@@ -23,9 +23,9 @@ size c = search (needs, long)
 returns : tie.Need-returns
 returns c =
     let bare = c .before .before .before in
-    laid-homed (bare .before .args .p) (bare .plan-intervals .result) (c .homes-of .result) (c .before .listed-jobs .result) (size (bare .before))
-    (bare .plan-intervals .ensures) (c .before .listed-jobs .ensures) (c .homes-of .ensures)
+    laid-homed (bare .before .args .p) (bare .plan-intervals .result) (c .homes-of .result) (c .before .capped .result) (size (bare .before))
+    (bare .plan-intervals .ensures) (c .before .capped .ensures) (c .homes-of .ensures)
 
 pub layout-of-spec : {M : Type 1} → statement M
 layout-of-spec =
-    tie.close (tie.spec plan-intervals-requires listed-jobs-requires homes-of-requires returns)
+    tie.close (tie.spec plan-intervals-requires capped-requires homes-of-requires returns)

@@ -1,6 +1,5 @@
 -- `intervals::lo_left` meets its contract: by whether the job is live.
 use borrow.Author.Needs.{needs}
-use mathlib.Core.Path.{_∙_}
 use Rattle.intervals.specs.Spares.{loLeft}
 use Rattle.intervals.proofs.lo_left.Statement.{statement}
 use Rattle.intervals.proofs.lo_left.Tie as tie

@@ -1,5 +1,5 @@
 -- `intervals::past_of` meets its contract. The loop's invariant: the passed intervals and those past among the rest are all that are past.
-use Prim.Native.Nat.{_≤_, _-_, _+_, min}
+use Prim.Native.Nat.{_≤_, _-_, _+_}
 use mathlib.Core.Path.{_≡_, refl, _∙_, ap}
 use native.Mathlib.Omega.{arith}
 use borrow.Author.Needs.{needs}
@@ -22,14 +22,14 @@ size : (c : tie.Start Inv-loop μ-loop) → length (c .args .l .interval) ≡ ma
 size c = search (needs, long)
 
 -- the count is within the array, and takes all that is listed
-few : (c : tie.After-listed-count Inv-loop μ-loop) → c .listed-count .result ≤ length (c .before .args .l .interval)
-few c = omega (arith, size (c .before), c .listed-count .ensures)
+few : (c : tie.After-capped Inv-loop μ-loop) → c .capped .result ≤ length (c .before .args .l .interval)
+few c = omega (arith, size (c .before), c .capped .ensures)
 
-all : (c : tie.After-listed-count Inv-loop μ-loop) → take (c .listed-count .result) (c .before .args .l .interval) ≡ listed (c .before .args .l)
-all c = rw (c .listed-count .ensures) (take-min (c .before .args .l .count) maxIntervals (c .before .args .l .interval) (size (c .before)))
+all : (c : tie.After-capped Inv-loop μ-loop) → take (c .capped .result) (c .before .args .l .interval) ≡ listed (c .before .args .l)
+all c = rw (c .capped .ensures) (take-min (c .before .args .l .count) maxIntervals (c .before .args .l .interval) (size (c .before)))
 
-listed-count-requires : tie.Need-listed-count-requires Inv-loop μ-loop
-listed-count-requires c κs = search needs
+capped-requires : tie.Need-capped-requires Inv-loop μ-loop
+capped-requires c κs = search needs
 
 loop-holds : tie.Need-loop-holds Inv-loop μ-loop
 loop-holds c = search needs
@@ -46,7 +46,7 @@ returns c =
     let l = c .before .before .before .before .loop in
     let called = c .before .before .before .before .before .before in
     let a = called .before .args in
-    passed-here (past (a .t)) (a .l .interval) (called .listed-count .result) (l .i) blankInterval (few called) (l .inv .1) (search needs) (λ ys. past-stop _ _ ys (c .if1 .taken))
+    passed-here (past (a .t)) (a .l .interval) (called .capped .result) (l .i) blankInterval (few called) (l .inv .1) (search needs) (λ ys. past-stop _ _ ys (c .if1 .taken))
     ∙ ap (past (a .t)) (all called)
 
 add-i : tie.Need-add-i Inv-loop μ-loop
@@ -60,7 +60,7 @@ loop-again c =
     let l = c .before .before .before .before .loop in
     let called = c .before .before .before .before .before .before in
     let a = called .before .args in
-    (search needs, passed-on (past (a .t)) (a .l .interval) (called .listed-count .result) (l .i) blankInterval (few called) (l .inv .1) (search needs) (λ ys. past-more _ _ ys (c .if1 .left)))
+    (search needs, passed-on (past (a .t)) (a .l .interval) (called .capped .result) (l .i) blankInterval (few called) (l .inv .1) (search needs) (λ ys. past-more _ _ ys (c .if1 .left)))
 
 returns-2 : tie.Need-returns-2 Inv-loop μ-loop
 unfolding pastIn past
@@ -68,7 +68,7 @@ returns-2 c =
     let l = c .before .loop in
     let called = c .before .before .before in
     let a = called .before .args in
-    passed-all (past (a .t)) (a .l .interval) (called .listed-count .result) (l .i) blankInterval (few called) (l .inv .1) (search needs) refl
+    passed-all (past (a .t)) (a .l .interval) (called .capped .result) (l .i) blankInterval (few called) (l .inv .1) (search needs) refl
     ∙ ap (past (a .t)) (all called)
 
 pub past-of-spec : {M : Type 1} → statement M
@@ -77,7 +77,7 @@ past-of-spec =
     (tie.spec
     Inv-loop
     μ-loop
-    listed-count-requires
+    capped-requires
     loop-holds
     mul-x
     array-copy-out-x

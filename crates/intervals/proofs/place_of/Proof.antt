@@ -1,5 +1,5 @@
 -- `intervals::place_of` meets its contract. The loop's invariant: the passed intervals and those to pass among the rest are all that the place counts.
-use Prim.Native.Nat.{_≤_, _-_, _+_, min}
+use Prim.Native.Nat.{_≤_, _-_, _+_}
 use mathlib.Core.Path.{_≡_, refl, _∙_, ap}
 use native.Mathlib.Omega.{arith}
 use borrow.Author.Needs.{needs}
@@ -23,14 +23,14 @@ size : (c : tie.Start Inv-loop μ-loop) → length (c .args .l .interval) ≡ ma
 size c = search (needs, long)
 
 -- the count is within the array, and takes all that is listed
-few : (c : tie.After-listed-count Inv-loop μ-loop) → c .listed-count .result ≤ length (c .before .args .l .interval)
-few c = omega (arith, size (c .before), c .listed-count .ensures)
+few : (c : tie.After-capped Inv-loop μ-loop) → c .capped .result ≤ length (c .before .args .l .interval)
+few c = omega (arith, size (c .before), c .capped .ensures)
 
-all : (c : tie.After-listed-count Inv-loop μ-loop) → take (c .listed-count .result) (c .before .args .l .interval) ≡ listed (c .before .args .l)
-all c = rw (c .listed-count .ensures) (take-min (c .before .args .l .count) maxIntervals (c .before .args .l .interval) (size (c .before)))
+all : (c : tie.After-capped Inv-loop μ-loop) → take (c .capped .result) (c .before .args .l .interval) ≡ listed (c .before .args .l)
+all c = rw (c .capped .ensures) (take-min (c .before .args .l .count) maxIntervals (c .before .args .l .interval) (size (c .before)))
 
-listed-count-requires : tie.Need-listed-count-requires Inv-loop μ-loop
-listed-count-requires c κs = search needs
+capped-requires : tie.Need-capped-requires Inv-loop μ-loop
+capped-requires c κs = search needs
 
 loop-holds : tie.Need-loop-holds Inv-loop μ-loop
 loop-holds c = search needs
@@ -49,7 +49,7 @@ returns c =
     let l = c .before .before .before .before .loop in
     let called = c .before .before .before .before .before .before in
     let a = called .before .args in
-    passed-here (λ xs. placeOf (a .e) xs) (a .l .interval) (called .listed-count .result) (l .i) blankInterval (few called) (l .inv .1) (search needs) (λ ys. place-here _ _ ys (c .if1 .taken))
+    passed-here (λ xs. placeOf (a .e) xs) (a .l .interval) (called .capped .result) (l .i) blankInterval (few called) (l .inv .1) (search needs) (λ ys. place-here _ _ ys (c .if1 .taken))
     ∙ ap (λ xs. placeOf (a .e) xs) (all called)
 
 add-i : tie.Need-add-i Inv-loop μ-loop
@@ -63,7 +63,7 @@ loop-again c =
     let l = c .before .before .before .before .loop in
     let called = c .before .before .before .before .before .before in
     let a = called .before .args in
-    (search needs, passed-on (λ xs. placeOf (a .e) xs) (a .l .interval) (called .listed-count .result) (l .i) blankInterval (few called) (l .inv .1) (search needs) (λ ys. place-on _ _ ys (c .if1 .left)))
+    (search needs, passed-on (λ xs. placeOf (a .e) xs) (a .l .interval) (called .capped .result) (l .i) blankInterval (few called) (l .inv .1) (search needs) (λ ys. place-on _ _ ys (c .if1 .left)))
 
 cast-result-2 : tie.Need-cast-result-2 Inv-loop μ-loop
 cast-result-2 c = search needs
@@ -74,7 +74,7 @@ returns-2 c =
     let l = c .before .loop in
     let called = c .before .before .before in
     let a = called .before .args in
-    passed-all (λ xs. placeOf (a .e) xs) (a .l .interval) (called .listed-count .result) (l .i) blankInterval (few called) (l .inv .1) (search needs) refl
+    passed-all (λ xs. placeOf (a .e) xs) (a .l .interval) (called .capped .result) (l .i) blankInterval (few called) (l .inv .1) (search needs) refl
     ∙ ap (λ xs. placeOf (a .e) xs) (all called)
 
 pub place-of-spec : {M : Type 1} → statement M
@@ -83,7 +83,7 @@ place-of-spec =
     (tie.spec
     Inv-loop
     μ-loop
-    listed-count-requires
+    capped-requires
     loop-holds
     mul-x
     array-copy-out-x

@@ -1,6 +1,6 @@
 -- `intervals::row_of` meets its contract. The loop's invariant: the row from place i on is made, and the debt is that of the intervals from there on.
-use Prim.Native.Nat.{ℕ, _+_, _≤_, _-_, _*_, _<_, suc}
-use mathlib.Core.Path.{_≡_, _∙_, ap}
+use Prim.Native.Nat.{ℕ, _+_, _≤_, _-_, _*_}
+use mathlib.Core.Path.{_≡_, _∙_}
 use lib.ListN.{length, getD, set}
 use mathlib.Core.List.{List}
 use native.Mathlib.Omega.{arith}
@@ -29,13 +29,13 @@ size c = search (needs, long)
 work-by-home-requires : tie.Need-work-by-home-requires Inv-loop μ-loop
 work-by-home-requires c κs = search needs
 
-listed-count-requires : tie.Need-listed-count-requires Inv-loop μ-loop
-listed-count-requires c κs = search needs
+capped-requires : tie.Need-capped-requires Inv-loop μ-loop
+capped-requires c κs = search needs
 
 loop-holds : tie.Need-loop-holds Inv-loop μ-loop
 loop-holds c =
     let a = c .before .before .before .before .args in
-    (search needs, search needs, λ hs ws b. row-start (a .t) (c .listed-count .result) hs ws (a .l .interval) (search needs) (size (c .before .before .before .before)))
+    (search needs, search needs, λ hs ws b. row-start (a .t) (c .capped .result) hs ws (a .l .interval) (search needs) (size (c .before .before .before .before)))
 
 sub-i : tie.Need-sub-i Inv-loop μ-loop
 sub-i c = search needs
@@ -60,7 +60,7 @@ asked-of-requires c κs =
     let l = c .before .before .before .loop in
     omega (arith, c .before .before .before .before .before .before .work-by-home .ensures .small (l .i - 1) (search needs))
 
-asks : (c : tie.After-asked-of Inv-loop μ-loop) → c .asked-of .result ≤ ((c .before .before .before .before .before .listed-count .result - c .before .before .before .before .loop .i) + 1) * (maxJobs * 65535)
+asks : (c : tie.After-asked-of Inv-loop μ-loop) → c .asked-of .result ≤ ((c .before .before .before .before .before .capped .result - c .before .before .before .before .loop .i) + 1) * (maxJobs * 65535)
 asks c =
     let l = c .before .before .before .before .loop in
     let start = c .before .before .before .before .before .before .before .before .before in
@@ -91,7 +91,7 @@ loop-less c = search needs
 -- the row with the interval of this turn
 turn : (c : tie.After-over Inv-loop μ-loop) (hs ws : List ℕ)
     → ByHome hs ws (c .before .before .before .before .before .before .before .before .before .work-by-home .result)
-    → RowSoFar (c .before .before .before .before .before .before .before .before .before .before .before .args .t) (c .before .before .before .before .before .before .before .listed-count .result) hs ws
+    → RowSoFar (c .before .before .before .before .before .before .before .before .before .before .before .args .t) (c .before .before .before .before .before .before .before .capped .result) hs ws
     (c .before .before .before .before .before .before .before .before .before .before .before .args .l .interval)
     (set (c .before .before .before .before .before .before .loop .row) (c .before .before .before .before .before .before .loop .i - 1) (toZ w32 (ofZ w32 (c .before .signed .result))))
     (c .over .result) (c .before .before .before .before .before .before .loop .i - 1)
@@ -99,7 +99,7 @@ turn c hs ws b =
     let l = c .before .before .before .before .before .before .loop in
     let called = c .before .before .before .before .before .before .before in
     let start = called .before .before .before .before in
-    row-turn (start .args .t) (called .listed-count .result) hs ws (start .args .l .interval) (search needs) (size start)
+    row-turn (start .args .t) (called .capped .result) hs ws (start .args .l .interval) (search needs) (size start)
     (called .before .before .work-by-home .result) (l .row) (l .debt) (l .i) _ _ _ _ (l .inv .2 hs ws b) (search needs) b
     (c .before .before .before .room-left .ensures .0) (c .before .before .asked-of .ensures)
     (toZ-ofZ {w = w32} (search needs) ∙ c .before .signed .ensures) (c .over .ensures)
@@ -118,9 +118,9 @@ returns c =
     let called = c .before .before in
     let a = called .before .before .before .before .args in
     let z : l .i ≡ 0 = omega arith in
-    row-end (a .t) (called .listed-count .result) (a .l .home) (a .work) (a .l .interval) (search needs) (size (called .before .before .before .before)) (l .row) (l .debt)
+    row-end (a .t) (called .capped .result) (a .l .home) (a .work) (a .l .interval) (search needs) (size (called .before .before .before .before)) (l .row) (l .debt)
     (rw z at (l .inv .2 (a .l .home) (a .work) (called .before .before .work-by-home .ensures)))
-    ∙ rw (called .listed-count .ensures, take-min (a .l .count) maxIntervals (a .l .interval) (size (called .before .before .before .before)))
+    ∙ rw (called .capped .ensures, take-min (a .l .count) maxIntervals (a .l .interval) (size (called .before .before .before .before)))
 
 pub row-of-spec : {M : Type 1} → statement M
 row-of-spec =
@@ -129,7 +129,7 @@ row-of-spec =
     Inv-loop
     μ-loop
     work-by-home-requires
-    listed-count-requires
+    capped-requires
     loop-holds
     sub-i
     mul-x
