@@ -1,5 +1,5 @@
 -- The demands on whole runs, as statements: each is a type, and its proof is a term of that type.
-use Prim.Native.Nat.{ℕ, suc, _+_, _-_, _≤_, _<_}
+use Prim.Native.Nat.{ℕ, suc, _+_, _-_, _≤_}
 use mathlib.Core.Path.{_≡_}
 use mathlib.Core.Logic.{_⊎_}
 use mathlib.Core.Bool.{true, false, not, _&&_}
@@ -8,11 +8,10 @@ use lib.ListN.{length, take, drop, getD}
 use Rattle.plan.specs.declared.Job.{Job}
 use Rattle.plan.specs.declared.Plan.{Plan}
 use Rattle.answers.specs.declared.Answer.the-variants.{Accepted}
-use Rattle.words.specs.Words.{if_then_else_, _≤?_, _<?_, _=?_}
+use Rattle.words.specs.Words.{if_then_else_, _≤?_, _=?_}
 use Rattle.plan.specs.Limits.{maxJobs, maxSlots}
-use Rattle.plan.specs.Plan.{jobNo, isHi, tableAt, tableSlots, naming, SamePlan}
+use Rattle.plan.specs.Plan.{jobNo, isHi, naming, SamePlan}
 use Rattle.answers.specs.Answer.{accepted}
-use Rattle.acceptance.specs.Acceptance.{wellFormed, acceptance}
 use Rattle.plan_text.specs.Read.{planText, readPlan}
 use Rattle.plan_text.specs.Write.{writeAnswer}
 use Rattle.executive.specs.declared.Standing.{Standing}
@@ -128,45 +127,7 @@ Demand3b =
     (k : ℕ) → JobOf p k → isHi (jobNo p k) ≡ false → jobNo p k .deadline ≤ r .t → phaseAt h (jobNo p k .deadline - 1) ≡ T →
     FinishedInTime p r k ⊎ HadWholeBudget p h r k
 
--- ---- demand 3, last sentence: a plan is refused 8 or 9 exactly when some needs make it hopeless
-
--- needs: for each job the slots it will turn out to need, at most its hi
-abbrev pub Needs : Plan → (ℕ → ℕ) → Type 0
-Needs p need = (k : ℕ) → JobOf p k → need k ≤ jobNo p k .hi
-
--- the table run: a slot goes to the table's job while that needs more than its table slots before, and else idles
-unfoldable pub tableRun : Plan → (ℕ → ℕ) → ℕ → ℕ
-tableRun p need s = if tableSlots p s (tableAt p s) <? need (tableAt p s) then tableAt p s else 0
-
--- the table run overruns at border t: slot t - 1 is the lo-th table slot of a HI job that needs more than lo
-abbrev pub OverrunsAt : Plan → (ℕ → ℕ) → ℕ → Type 0
-OverrunsAt p need t =
-    (s k : ℕ) × (t ≡ suc s) × (s < p .slots) × JobOf p k × (tableAt p s ≡ k)
-    × (isHi (jobNo p k) ≡ true) × (tableSlots p t k ≡ jobNo p k .lo) × (jobNo p k .lo < need k)
-
--- t is the first such border
-abbrev pub FirstOverrun : Plan → (ℕ → ℕ) → ℕ → Type 0
-FirstOverrun p need t = OverrunsAt p need t × ((u : ℕ) → u < t → OverrunsAt p need u → ⊥)
-
--- an order of all N slots that agrees with the table run before t
-abbrev pub OrderFrom : Plan → (ℕ → ℕ) → ℕ → List ℕ → Type 0
-OrderFrom p need t order = (length order ≡ p .slots) × ((s : ℕ) → s < t → getD order s 0 ≡ tableRun p need s)
-
--- it gives every HI job what it needs inside its window
-abbrev pub Serves : Plan → (ℕ → ℕ) → List ℕ → Type 0
-Serves p need order = (k : ℕ) → JobOf p k → isHi (jobNo p k) ≡ true → need k ≤ inWindow p k order
-
--- hopeless: the table run overruns, and from its first overrun on no order of the slots serves every HI job
-abbrev pub Hopeless : Plan → (ℕ → ℕ) → Type 0
-Hopeless p need = (t : ℕ) × FirstOverrun p need t × ((order : List ℕ) → OrderFrom p need t order → Serves p need order → ⊥)
-
--- 3c, no plan is accepted wrongly: an accepted plan is hopeless under no needs
-abbrev pub Demand3cAccepted : Type 0
-Demand3cAccepted = (p : Plan) → Sized p → acceptance p ≡ Accepted → (need : ℕ → ℕ) → Needs p need → Hopeless p need → ⊥
-
--- 3c, no plan is refused wrongly: one that passes 2 to 7 and is refused is hopeless under some needs
-abbrev pub Demand3cRefused : Type 0
-Demand3cRefused = (p : Plan) → Sized p → wellFormed p ≡ Accepted → (acceptance p ≡ Accepted → ⊥) → (need : ℕ → ℕ) × Needs p need × Hopeless p need
+-- ---- demand 3, last sentence: see Hopeless
 
 -- ---- texts
 

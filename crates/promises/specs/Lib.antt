@@ -5,6 +5,11 @@ pub mod Runs
 pub mod Chosen
 pub mod Ends
 pub mod General
+pub mod Hopeless
+pub mod ExactRun
+pub mod ExactRefused
+pub mod ExactAccepted
+pub mod Exact
 pub mod Refused
 pub mod Texts
 pub mod EarliestLaws

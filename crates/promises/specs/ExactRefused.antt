@@ -1,0 +1,128 @@
+-- A refusal shows needs that are hopeless: hi for the HI jobs that are due by e and have a table slot to come at t, lo for all others.
+-- No overrun comes up to t, one comes later, and any order that continues the table run puts more than e - t slots between t and e.
+use Prim.Native.Nat.{ℕ, zero, suc, _-_, _≤_, _<_, zero-le}
+use native.Mathlib.Decide.{decLe}
+use native.Mathlib.Omega.{arith}
+use mathlib.Core.Path.{_≡_, refl, sym, _∙_}
+use mathlib.Core.Logic.{_⊎_, inl, inr, ⊎-elim}
+use mathlib.Core.Bool.{Bool, true, false, _&&_}
+use mathlib.Core.List.{List}
+use lib.ListN.{getD}
+use borrow.Author.Tests.{le-leb, lt-leb, lt-ltb, le-ltb}
+use Rattle.words.specs.Words.{if_then_else_, _≤?_, _<?_}
+use Rattle.windows.specs.Sums.{gate}
+use Rattle.windows.specs.SumLaws.{total-mono, gate-open, gate-shut, gate-none}
+use Rattle.windows.specs.Windows.{dueBy}
+use Rattle.windows.specs.Orders.{given}
+use Rattle.windows.specs.SlotLaws.{given-split, given-wider, given-fewer, counting}
+use Rattle.plan.specs.declared.Plan.{Plan}
+use Rattle.plan.specs.Plan.{isHi, tableAt}
+use Rattle.acceptance_promise.specs.Promise.{jobAt, windowsOf, tab, InOrder, asked}
+use Rattle.acceptance_promise.specs.RefusalLaws.{never}
+use Rattle.acceptance_promise.specs.InOrderLaws.{job-no}
+use Rattle.acceptance_promise.specs.CountLaws.{tab-start, tab-split, tab-mono}
+use Rattle.acceptance_promise.specs.TableLaws.{asked-high, asked-case, tab-due, coming-open}
+use Rattle.promises.specs.Hopeless.{Needs, Continues, Serves, Hopeless}
+use Rattle.promises.specs.ExactRun.{first-of, place-of, in-window, run-names, Overrun, overruns-at, overrun-of, overrun?, overruns-by}
+
+-- the needs that a refusal at (t, e) shows
+unfoldable pub worst : Plan → ℕ → ℕ → ℕ → ℕ
+worst p t e zero = 0
+worst p t e (suc k) = if isHi (jobAt p k) && (tab p k t <? jobAt p k .lo) && (jobAt p k .deadline ≤? e) then jobAt p k .hi else jobAt p k .lo
+
+module _ (p : Plan) (t e : ℕ) where
+  -- a HI job that is due by e and has a table slot to come at t
+  record Pressed (k : ℕ) : Type 0 where
+    high : isHi (jobAt p k) ≡ true
+    coming : tab p k t < jobAt p k .lo
+    early : jobAt p k .deadline ≤ e
+
+  -- job by job: hi for such a job, lo and nothing asked for any other
+  worst-case : (k : ℕ) → (Pressed k × (worst p t e (suc k) ≡ jobAt p k .hi) × (gate (jobAt p k .deadline) e (asked p t k) ≡ jobAt p k .hi - tab p k t))
+      ⊎ ((worst p t e (suc k) ≡ jobAt p k .lo) × (gate (jobAt p k .deadline) e (asked p t k) ≡ 0))
+  unfolding worst
+  worst-case k = go (isHi (jobAt p k)) refl (decLe (suc (tab p k t)) (jobAt p k .lo)) (decLe (jobAt p k .deadline) e)
+    where
+      go : (b : Bool) → isHi (jobAt p k) ≡ b → Dec (suc (tab p k t) ≤ jobAt p k .lo) → Dec (jobAt p k .deadline ≤ e)
+          → (Pressed k × (worst p t e (suc k) ≡ jobAt p k .hi) × (gate (jobAt p k .deadline) e (asked p t k) ≡ jobAt p k .hi - tab p k t))
+          ⊎ ((worst p t e (suc k) ≡ jobAt p k .lo) × (gate (jobAt p k .deadline) e (asked p t k) ≡ 0))
+      go true h (yes q) (yes r) =
+          inl (record { high = h; coming = q; early = r }, rw (h, lt-ltb (tab p k t) (jobAt p k .lo) q, le-leb (jobAt p k .deadline) e r), gate-open (asked p t k) r ∙ asked-high p t k h q)
+      go true h (yes q) (no r) =
+          inr (rw (h, lt-ltb (tab p k t) (jobAt p k .lo) q, lt-leb (jobAt p k .deadline) e (omega arith)), gate-shut {a = jobAt p k .deadline} {b = e} (asked p t k) (omega arith))
+      go true h (no q) r =
+          inr (rw (h, le-ltb (tab p k t) (jobAt p k .lo) (omega arith)), gate-none (jobAt p k .deadline) e (asked p t k) (⊎-elim (λ w. absurd (omega (arith, w .1))) (λ w. w) (asked-case p t k)))
+      go false h q r = inr (rw h, gate-none (jobAt p k .deadline) e (asked p t k) (⊎-elim (λ w. absurd (never (w .0) h)) (λ w. w) (asked-case p t k)))
+
+  module _ (ok : InOrder p) where
+    -- they are needs: none is above hi
+    worst-needs : Needs p (worst p t e)
+    worst-needs n h =
+        let i = place-of p n h in
+        rw (i .1, job-no p (i .0)) (⊎-elim (λ w. omega (arith, w .1)) (λ w. omega (arith, w .0, ok .budget (i .0) (i .2))) (worst-case (i .0)))
+
+    -- no overrun up to t
+    worst-early : (u : ℕ) → u ≤ t → Overrun p (worst p t e) u → ⊥
+    worst-early u h o =
+        ⊎-elim
+        (λ w. let m = tab-mono p (o .who) (suc (o .slot)) t (omega (arith, o .border)) in omega (arith, o .last, w .0 .coming))
+        (λ w. omega (arith, o .more, w .0))
+        (worst-case (o .who))
+
+    -- with no overrun at all the table itself gives what is asked, between t and e
+    table-gives : (k : ℕ) → k < p .jobs → ((u : ℕ) → u ≤ p .slots → Overrun p (worst p t e) u → ⊥) → gate (jobAt p k .deadline) e (asked p t k) ≤ given (tableAt p) (suc k) t e
+    table-gives k l none = ⊎-elim (λ w. go w (decLe (jobAt p k .hi) (jobAt p k .lo))) (λ w. omega (arith, w .1)) (worst-case k)
+      where
+        go : Pressed k × (worst p t e (suc k) ≡ jobAt p k .hi) × (gate (jobAt p k .deadline) e (asked p t k) ≡ jobAt p k .hi - tab p k t) → Dec (jobAt p k .hi ≤ jobAt p k .lo)
+            → gate (jobAt p k .deadline) e (asked p t k) ≤ given (tableAt p) (suc k) t e
+        go w (no q) = absurd (let o = overruns-by p (worst p t e) ok k (p .slots) l (w .0 .high) (omega (arith, w .1)) (omega arith) (omega (arith, ok .full k l)) in none (o .0) (o .1) (o .2))
+        go w (yes q) =
+            let c = coming-open p ok k t l (w .0 .coming) in
+            omega (arith, w .2, tab-due p ok k l, tab-split p k t (jobAt p k .deadline) (omega arith), given-wider (tableAt p) (suc k) t (jobAt p k .deadline) t e (omega arith) (w .0 .early))
+
+    -- an order that continues the table run from a later border, and serves, gives what is asked between t and e
+    order-gives : (u k : ℕ) (order : List ℕ) → k < p .jobs → t < u → Continues p (worst p t e) u order → Serves p (worst p t e) order
+        → gate (jobAt p k .deadline) e (asked p t k) ≤ given (λ s. getD order s 0) (suc k) t e
+    order-gives u k order l h continues serves = ⊎-elim go (λ w. omega (arith, w .1)) (worst-case k)
+      where
+        who : ℕ → ℕ
+        who s = getD order s 0
+
+        go : Pressed k × (worst p t e (suc k) ≡ jobAt p k .hi) × (gate (jobAt p k .deadline) e (asked p t k) ≡ jobAt p k .hi - tab p k t)
+            → gate (jobAt p k .deadline) e (asked p t k) ≤ given who (suc k) t e
+        go w =
+            let c = coming-open p ok k t l (w .0 .coming) in
+            let s = serves (suc k) (omega arith, l) (rw (job-no p k) (w .0 .high)) in
+            let f = given-fewer who (tableAt p) (suc k) (suc k) 0 t (λ s m v q. run-names p (worst p t e) s k (sym (continues .1 s (omega arith)) ∙ q)) in
+            omega (
+              arith,
+              w .1,
+              w .2,
+              w .0 .early,
+              in-window p k order,
+              tab-split p k 0 t zero-le,
+              tab-start p k,
+              given-wider who (suc k) (jobAt p k .release) (jobAt p k .deadline) 0 e zero-le (w .0 .early),
+              given-split who (suc k) 0 t e zero-le (omega (arith, w .0 .early)),
+            )
+
+    -- where more than e - t may be asked at t by the jobs due by e, these needs are hopeless
+    pub worst-hopeless : e - t < dueBy (windowsOf p) (asked p t) e → Needs p (worst p t e) × Hopeless p (worst p t e)
+    unfolding dueBy
+    worst-hopeless fails = (worst-needs, find (first-of (Overrun p (worst p t e)) (overrun? p (worst p t e)) (p .slots)))
+      where
+        find : ((u : ℕ) × Overrun p (worst p t e) u × ((v : ℕ) → v < u → Overrun p (worst p t e) v → ⊥)) ⊎ ((u : ℕ) → u ≤ p .slots → Overrun p (worst p t e) u → ⊥) → Hopeless p (worst p t e)
+        find (inr none) = absurd
+            (let m = total-mono (p .jobs) (λ k. gate (jobAt p k .deadline) e (asked p t k)) (λ k. given (tableAt p) (suc k) t e) (λ k l. table-gives k l none) in
+            omega (arith, counting (tableAt p) (p .jobs) t e))
+        find (inl w) = (
+          w .0,
+          (overruns-at p (worst p t e) (w .0) (w .1), λ v l o. w .2 v l (overrun-of p (worst p t e) v o)),
+          λ order continues serves. no-order order continues serves (decLe (w .0) t),
+        )
+          where
+            no-order : (order : List ℕ) → Continues p (worst p t e) (w .0) order → Serves p (worst p t e) order → Dec (w .0 ≤ t) → ⊥
+            no-order order continues serves (yes q) = worst-early (w .0) q (w .1)
+            no-order order continues serves (no q) =
+                let m = total-mono (p .jobs) (λ k. gate (jobAt p k .deadline) e (asked p t k)) (λ k. given (λ s. getD order s 0) (suc k) t e) (λ k l. order-gives (w .0) k order l (omega arith) continues serves) in
+                omega (arith, counting (λ s. getD order s 0) (p .jobs) t e)
