@@ -23,4 +23,5 @@ pub mod History
 pub mod DeadlineLaws
 pub mod Deadlines
 pub mod Shams
+pub mod Verdict
 pub mod Examples
