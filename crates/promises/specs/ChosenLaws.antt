@@ -3,7 +3,7 @@ use Prim.Native.Nat.{ℕ, _-_, _≤_, _<_}
 use native.Mathlib.Omega.{arith}
 use mathlib.Core.Path.{_≡_, refl, sym, _∙_}
 use mathlib.Core.Logic.{⊎-elim, _⊎_, inl, inr}
-use mathlib.Core.Bool.{Bool, true, false, not, _&&_}
+use mathlib.Core.Bool.{Bool, true, false, _&&_}
 use lib.ListN.{length}
 use borrow.Author.Tests.{leb-true, le-leb}
 use Rattle.words.specs.Words.{_≤?_, above0, below0}
@@ -51,18 +51,19 @@ module _ (r : Run) where
       go true e false f = inr (λ _ h. never h f, rw (e, f))
       go false e b f = inr (λ h _. never (le-leb 1 (tableAt (r .plan) (r .t)) h) e, rw e)
 
-  -- phase H: one slot to spare and as of all ready jobs, or as of the ready HI jobs
+  -- phase H: as of all ready jobs while HI spare > 0 and LO spare >= 0, otherwise as of the ready HI jobs
   pub in-phase-H : r .phase ≡ H
-      → ((above0 (currentHi r) ≡ true) × (chosen r ≡ earliest (r .plan) (ready r)))
-      ⊎ (chosen r ≡ earliest (r .plan) (readyHi r))
+      → ((above0 (currentHi r) ≡ true) × (below0 (currentLo r) ≡ false) × (chosen r ≡ earliest (r .plan) (ready r)))
+      ⊎ (((above0 (currentHi r) ≡ false) ⊎ (below0 (currentLo r) ≡ true)) × (chosen r ≡ earliest (r .plan) (readyHi r)))
   unfolding chosen chosenH ready readyHi
-  in-phase-H phase = rw phase (go (above0 (currentHi r)) refl (not (below0 (currentLo r))) refl)
+  in-phase-H phase = rw phase (go (above0 (currentHi r)) refl (below0 (currentLo r)) refl)
     where
-      go : (a : Bool) → above0 (currentHi r) ≡ a → (b : Bool) → not (below0 (currentLo r)) ≡ b
-          → ((above0 (currentHi r) ≡ true) × (chosenH r ≡ earliest (r .plan) (ready r))) ⊎ (chosenH r ≡ earliest (r .plan) (readyHi r))
-      go true e true f = inl (e, rw (e, f))
-      go true e false f = inr (rw (e, f))
-      go false e b f = inr (rw e)
+      go : (a : Bool) → above0 (currentHi r) ≡ a → (b : Bool) → below0 (currentLo r) ≡ b
+          → ((above0 (currentHi r) ≡ true) × (below0 (currentLo r) ≡ false) × (chosenH r ≡ earliest (r .plan) (ready r)))
+          ⊎ (((above0 (currentHi r) ≡ false) ⊎ (below0 (currentLo r) ≡ true)) × (chosenH r ≡ earliest (r .plan) (readyHi r)))
+      go true e false f = inl (e, f, rw (e, f))
+      go true e true f = inr (inr f, rw (e, f))
+      go false e b f = inr (inl e, rw e)
 
 module _ (r : Run) (js-fit : r .plan .jobs ≤ length (r .plan .job)) (es-fit : r .plan .jobs ≤ length (r .job)) where
   pub earliest-ready : EarliestReady r (earliest (r .plan) (ready r))
@@ -111,6 +112,6 @@ module _ (r : Run) (js-fit : r .plan .jobs ≤ length (r .plan .job)) (es-fit : 
             (in-phase-T r phase)
         go H phase =
             ⊎-elim
-            (λ w. of-ready (earliest (r .plan) (ready r)) earliest-ready m (sym (w .1) ∙ e))
-            (λ w. of-ready-hi (earliest (r .plan) (readyHi r)) earliest-ready-hi m (sym w ∙ e))
+            (λ w. of-ready (earliest (r .plan) (ready r)) earliest-ready m (sym (w .2) ∙ e))
+            (λ w. of-ready-hi (earliest (r .plan) (readyHi r)) earliest-ready-hi m (sym (w .1) ∙ e))
             (in-phase-H r phase)

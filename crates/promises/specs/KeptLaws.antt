@@ -29,7 +29,7 @@ use Rattle.executive.specs.declared.Report.{Report}
 use Rattle.executive.specs.Run.{live, freshEntry, freshHi, hiWork, currentHi, newRun}
 use Rattle.executive.specs.ZipLaws.{zipped-at}
 use Rattle.executive.specs.Coherent.{standingHolds}
-use Rattle.executive.specs.Choice.{chosen, earliest, ready, readyHi}
+use Rattle.executive.specs.Choice.{chosen, earliest, readyHi}
 use Rattle.executive.specs.Step.{overrun, canReturn, phaseAfter, nextRun}
 use Rattle.promises.specs.Demands.{JobOf, jobRun}
 use Rattle.promises.specs.Runs.{entryAfter, Taken, Recorded, entryAt, givenAt, liveAt, Kept}
@@ -173,13 +173,13 @@ module _ (r : Run) (w : Recorded r) (report : Report) (ok : Taken r report) wher
       (above-exactly (r .plan) (w .order) (hiWork r) (r .t) (ok .more) none-due .0 (rw fresh at above))
 
   goes-H : r .phase ≡ H → Feasible (windowsOf (r .plan)) (r .t) (hiRemaining (r .plan) (givenAt r) (liveAt r)) → Goes
-  goes-H phase now = (⊎-elim spared hurried (in-phase-H r phase), returned)
+  goes-H phase now = (⊎-elim (λ c. spared (c .0)) (λ c. hurried (c .1)) (in-phase-H r phase), returned)
     where
       Room : Type 0
       Room = Feasible (windowsOf (r .plan)) (r .t + 1) (hiRemaining (r .plan) (givenAt next) (liveAt next))
 
-      spared : (above0 (currentHi r) ≡ true) × (chosen r ≡ earliest (r .plan) (ready r)) → Room
-      spared c = spare-feasible (r .plan) (r .t) (givenAt r) (givenAt next) (liveAt r) (liveAt next) now who (slot-to-spare now (c .0)) slot-to
+      spared : above0 (currentHi r) ≡ true → Room
+      spared above = spare-feasible (r .plan) (r .t) (givenAt r) (givenAt next) (liveAt r) (liveAt next) now who (slot-to-spare now above) slot-to
 
       none-ready : ((k : ℕ) → JobOf (r .plan) k → (isHi (jobNo (r .plan) k) ≡ true) × Ready r k → ⊥) → NoHiReady (r .plan) (r .t) (liveAt r)
       none-ready none k l high alive released =
