@@ -85,17 +85,22 @@ line-length key n = length-append (key ++ digits n) (LF ∷ []) ∙ ap (λ (k : 
 
 -- one piece after the other, with room for both, is one piece
 module _ (at : ℕ) (v w d : List ℕ) (room : at + length (v ++ w) ≤ length d) where
-  first-room : at + length v ≤ length d
+  pub first-room : at + length v ≤ length d
   first-room = omega (arith, length-append v w)
+
+  -- the second still has room after the first
+  pub then-room : (a : ℕ) (d₁ : List ℕ) → a ≡ placeAfter at v d → d₁ ≡ putFit at v d → a + length w ≤ length d₁
+  then-room a d₁ ea e₁ =
+      let l : length d₁ ≡ length d = ap length (e₁ ∙ put-fits at v d first-room) ∙ length-put at v d first-room in
+      omega (arith, ea ∙ after-fits at v d first-room, length-append v w)
 
   pub fit-then : (a r : ℕ) (d₁ d₂ : List ℕ) → a ≡ placeAfter at v d → d₁ ≡ putFit at v d → r ≡ placeAfter a w d₁ → d₂ ≡ putFit a w d₁
       → (r ≡ placeAfter at (v ++ w) d) × (d₂ ≡ putFit at (v ++ w) d)
   fit-then a r d₁ d₂ ea e₁ er e₂ =
       let a′ : a ≡ at + length v = ea ∙ after-fits at v d first-room in
       let p : d₁ ≡ put at v d = e₁ ∙ put-fits at v d first-room in
-      let l : length d₁ ≡ length d = ap length p ∙ length-put at v d first-room in
+      let room′ : a + length w ≤ length d₁ = then-room a d₁ ea e₁ in
       let n : length (v ++ w) ≡ length v + length w = length-append v w in
-      let room′ : a + length w ≤ length d₁ = omega arith in
       let r′ : r ≡ at + length (v ++ w) = omega (arith, er ∙ after-fits a w d₁ room′) in
       let q : d₂ ≡ put at (v ++ w) d = e₂ ∙ put-fits a w d₁ room′ ∙ ap (λ (k : ℕ). put k w d₁) a′ ∙ ap (put (at + length v) w) p ∙ put-put at v d first-room w in
       (r′ ∙ sym (after-fits at (v ++ w) d room), q ∙ sym (put-fits at (v ++ w) d room))

@@ -7,3 +7,4 @@ pub mod DecidedLaws
 pub mod Reader
 pub mod ReaderLaws
 pub mod PrefixLaws
+pub mod WriterLaws

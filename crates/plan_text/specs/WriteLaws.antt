@@ -57,7 +57,7 @@ small-all k (n ∷ ns) h = step (n ≤? maxNumber) (leb-true n maxNumber) (small
     step true f ih h = (f refl, ih h)
     step false f ih h = absurd (let z : _≡_ {A = ℕ} 0 1 = cc in omega arith)
 
-all-small : (k : ℕ) (ns : List ℕ) → All Small ns → firstRefusal fourDigits k ns ≡ Accepted
+pub all-small : (k : ℕ) (ns : List ℕ) → All Small ns → firstRefusal fourDigits k ns ≡ Accepted
 unfolding firstRefusal accepted
 all-small k [] h = refl
 all-small k (n ∷ ns) h = rw (le-leb n maxNumber (h .0)) (all-small (suc k) ns (h .1))

@@ -1,5 +1,6 @@
 // The plan text: reader and writer.
 pub mod reader;
+pub mod writer;
 
 use answers::Answer;
 use plan::Plan;
