@@ -5,3 +5,4 @@ pub mod RisingLaws
 pub mod OverfullLaws
 pub mod Along
 pub mod AlongLaws
+pub mod AnalysisLaws
