@@ -14,21 +14,10 @@ use Rattle.plan.specs.declared.Plan.{Plan}
 use Rattle.plan.specs.Limits.{maxSlots, maxJobs, oneTo}
 use Rattle.plan.specs.Plan.{jobsOf}
 use Rattle.plan.specs.Rules.{windowHolds, windowsHold}
+use Rattle.intervals.specs.Deadlines.{risingDeadlines, Windowed, WithinLimits, Rises, nearer, nextAbove, above}
 use Rattle.intervals.specs.Intervals.{insert, rising, deadlines}
 
 -- ---- what windows that hold give
-
--- every window is r < d <= N
-abbrev pub Windowed : ℕ → List Job → Type 0
-Windowed N [] = Unit
-Windowed N (j ∷ js) = (j .release < j .deadline) × (j .deadline ≤ N) × Windowed N js
-
-pub record WithinLimits (p : Plan) : Type 0 where
-  pub some-slots : 1 ≤ p .slots
-  pub few-slots : p .slots ≤ maxSlots
-  pub some-jobs : 1 ≤ p .jobs
-  pub few-jobs : p .jobs ≤ maxJobs
-  pub windows : Windowed (p .slots) (jobsOf p)
 
 both : (a b : Bool) → (a && b) ≡ true → (a ≡ true) × (b ≡ true)
 both true b h = (refl, h)
@@ -59,11 +48,6 @@ within-limits p h =
 
 -- ---- rising numbers
 
--- every number is above b, each above the one before, none above top
-abbrev pub Rises : ℕ → List ℕ → ℕ → Type 0
-Rises b [] top = b ≤ top
-Rises b (x ∷ xs) top = (b < x) × Rises x xs top
-
 pub rises-top : (b : ℕ) (xs : List ℕ) (top : ℕ) → Rises b xs top → b ≤ top
 rises-top b [] top r = r
 rises-top b (x ∷ xs) top r = omega (arith, r .0, rises-top x xs top (r .1))
@@ -78,10 +62,10 @@ insert-rises b x (y ∷ ys) top l h r =
     (λ q. rw (le-ltb x y p, eq-eqb x y q) r)
     (λ q. rw (le-ltb x y p, ne-eqb x y q) (r .0, insert-rises y x ys top (omega (arith, q)) h (r .1))))
 
-pub deadlines-rise : (N : ℕ) (js : List Job) → Windowed N js → Rises 0 (rising (map (λ j. j .deadline) js)) N
+pub deadlines-rise : (N : ℕ) (js : List Job) → Windowed N js → Rises 0 (risingDeadlines js) N
 unfolding rising
 deadlines-rise N [] w = omega arith
-deadlines-rise N (j ∷ js) w = insert-rises 0 (j .deadline) (rising (map (λ j. j .deadline) js)) N (omega (arith, w .0)) (w .1) (deadlines-rise N js (w .2))
+deadlines-rise N (j ∷ js) w = insert-rises 0 (j .deadline) (risingDeadlines js) N (omega (arith, w .0)) (w .1) (deadlines-rise N js (w .2))
 
 -- ---- there are no more of them than jobs
 
@@ -106,15 +90,6 @@ few-deadlines p =
 
 -- ---- the next number above a border
 
--- x where it is above m and before `next`, else `next`
-unfoldable pub nearer : ℕ → ℕ → ℕ → ℕ → ℕ
-nearer m beyond x next = min (if m <? x then x else beyond) next
-
--- the least of the numbers above m, `beyond` where there is none
-unfoldable pub nextAbove : ℕ → ℕ → List ℕ → ℕ
-nextAbove m beyond [] = beyond
-nextAbove m beyond (x ∷ xs) = nearer m beyond x (nextAbove m beyond xs)
-
 insert-next : (m beyond x : ℕ) (ys : List ℕ) → nextAbove m beyond (insert x ys) ≡ min (if m <? x then x else beyond) (nextAbove m beyond ys)
 unfolding insert nextAbove nearer
 insert-next m beyond x [] = refl
@@ -132,13 +107,6 @@ rising-next m beyond [] = refl
 rising-next m beyond (x ∷ xs) = insert-next m beyond x (rising xs) ∙ ap (λ k. min (if m <? x then x else beyond) k) (rising-next m beyond xs)
 
 -- ---- of rising numbers, those above a border begin with the next one
-
--- the numbers above m
-unfoldable pub above : ℕ → List ℕ → List ℕ
-above m [] = []
-above m (x ∷ xs) =
-    let later = above m xs in
-    if m <? x then x ∷ later else later
 
 above-all : (m b : ℕ) (ys : List ℕ) (top : ℕ) → m ≤ b → Rises b ys top → above m ys ≡ ys
 unfolding above
@@ -191,8 +159,3 @@ above-none m b (y ∷ ys) top r h =
 
 pub above-zero : (ys : List ℕ) (top : ℕ) → Rises 0 ys top → above 0 ys ≡ ys
 above-zero ys top r = above-all 0 0 ys top (omega arith) r
-
--- ---- the least release, job by job
-
-unfoldable pub earlierRelease : ℕ → Job → ℕ → ℕ
-earlierRelease e j least = if j .deadline =? e then min (j .release) least else least

@@ -4,10 +4,10 @@ use Prim.Native.Nat.{ℕ, zero, suc, _+_, _*_, _≤_, _<_, max, min}
 use mathlib.Core.Path.{_≡_, refl}
 use mathlib.Core.Logic.{_⊎_, inl, inr, ⊎-elim}
 use mathlib.Core.Bool.{Bool, true, false}
-use mathlib.Core.List.{List, [], _∷_, _++_, map, List·Memᴰ, List·Memᴰ·head, List·Memᴰ·tail, List·Memᴰ·cases-cons, List·Memᴰ·not-nil}
+use mathlib.Core.List.{List, [], _∷_, _++_, List·Memᴰ, List·Memᴰ·head, List·Memᴰ·tail, List·Memᴰ·cases-cons, List·Memᴰ·not-nil}
 use native.Mathlib.Nat.{not-suc-le-zero, le-of-suc-le-suc}
 use native.Mathlib.Omega.{arith}
-use lib.ListN.{length, getD, drop, length-append}
+use lib.ListN.{length, drop, length-append}
 use borrow.Author.Tests.{lt-ltb, le-ltb, le-leb, lt-leb, eq-eqb, ne-eqb}
 use Rattle.words.specs.Words.{if_then_else_, _<?_, _=?_}
 use Rattle.words.specs.Cases.{by-less, by-equal}
@@ -17,22 +17,9 @@ use Rattle.plan.specs.Plan.{jobsOf}
 use Rattle.plan.specs.Rules.{windowsHold}
 use Rattle.intervals.specs.declared.Interval.{Interval}
 use Rattle.intervals.specs.Intervals.{maxIntervals, insert, rising, leastRelease, gap, intervalsFrom, deadlines, intervals, past}
-use Rattle.intervals.specs.Layout.{blankInterval}
-use Rattle.intervals.specs.RowLaws.{past-stop, past-more}
-use Rattle.intervals.specs.DeadlineLaws.{Windowed, within-limits, Rises, deadlines-rise, few-deadlines}
-
--- the intervals cover a to b: each starts where the one before ends, and each has a length
-abbrev pub Covers : ℕ → List Interval → ℕ → Type 0
-Covers a [] b = a ≡ b
-Covers a (x ∷ xs) b = (x .start ≡ a) × (a < x .end) × Covers (x .end) xs b
-
--- where they end
-abbrev pub ends : List Interval → List ℕ
-ends xs = map (λ x. x .end) xs
-
--- the i-th interval
-abbrev pub intervalAt : List Interval → ℕ → Interval
-intervalAt xs i = getD xs i blankInterval
+use Rattle.intervals.specs.Covers.{Covers, ends, intervalAt, Holding}
+use Rattle.intervals.specs.Deadlines.{risingDeadlines, Windowed, Rises}
+use Rattle.intervals.specs.DeadlineLaws.{within-limits, deadlines-rise, few-deadlines}
 
 -- ---- they cover
 
@@ -64,11 +51,11 @@ least-of-job j (k ∷ js) m = go (List·Memᴰ·cases-cons m) (least-of-job j js
         (λ q. rw (eq-eqb (k .deadline) (j .deadline) q) (omega (arith, later n)))
         (λ q. rw (ne-eqb (k .deadline) (j .deadline) q) (later n))
 
-deadlines-started : (N : ℕ) (all js : List Job) → ((j : Job) → List·Memᴰ j js → List·Memᴰ j all) → Windowed N js → Started all (rising (map (λ j. j .deadline) js))
+deadlines-started : (N : ℕ) (all js : List Job) → ((j : Job) → List·Memᴰ j js → List·Memᴰ j all) → Windowed N js → Started all (risingDeadlines js)
 unfolding rising
 deadlines-started N all [] sub w = tt
 deadlines-started N all (j ∷ js) sub w =
-    insert-started all (j .deadline) (rising (map (λ j. j .deadline) js))
+    insert-started all (j .deadline) (risingDeadlines js)
     (omega (arith, least-of-job j all (sub j (List·Memᴰ·head refl)), w .0))
     (deadlines-started N all js (λ k m. sub k (List·Memᴰ·tail m)) (w .2))
 
@@ -132,11 +119,11 @@ insert-kept z x (y ∷ ys) m =
     (λ q. rw (le-ltb x y p, ne-eqb x y q)
     (⊎-elim (λ e. List·Memᴰ·head e) (λ n. List·Memᴰ·tail (insert-kept z x ys n)) (List·Memᴰ·cases-cons m))))
 
-deadline-among : (j : Job) (js : List Job) → List·Memᴰ j js → List·Memᴰ (j .deadline) (rising (map (λ j. j .deadline) js))
+deadline-among : (j : Job) (js : List Job) → List·Memᴰ j js → List·Memᴰ (j .deadline) (risingDeadlines js)
 unfolding rising
 deadline-among j [] m = absurd (List·Memᴰ·not-nil m)
 deadline-among j (k ∷ js) m =
-    let later = rising (map (λ j. j .deadline) js) in
+    let later = risingDeadlines js in
     ⊎-elim
     (λ e. rw e (insert-here (k .deadline) later))
     (λ n. insert-kept (j .deadline) (k .deadline) later (deadline-among j js n))
@@ -188,16 +175,15 @@ none-inside a (x ∷ xs) b e (suc i) c m h l =
     (λ n. none-inside (x .end) xs b e i (c .2) n (le-of-suc-le-suc h) l)
     (List·Memᴰ·cases-cons m)
 
--- the interval that holds slot t, and those after it
-pub record Holding (t : ℕ) (xs : List Interval) (b : ℕ) : Type 0 where
-  pub now : Interval
-  pub later : List Interval
-  pub from : drop (past t xs) xs ≡ now ∷ later
-  pub within : past t xs < length xs
-  pub at : intervalAt xs (past t xs) ≡ now
-  pub begun : now .start ≤ t
-  pub still : t < now .end
-  pub covers : Covers (now .end) later b
+-- an interval that has ended is past, and the count goes on behind it
+pub past-more : (t : ℕ) (x : Interval) (xs : List Interval) → x .end ≤ t → past t (x ∷ xs) ≡ suc (past t xs)
+unfolding past
+past-more t x xs h = rw (le-leb (x .end) t h)
+
+-- one that has not ends the count
+pub past-stop : (t : ℕ) (x : Interval) (xs : List Interval) → t < x .end → past t (x ∷ xs) ≡ 0
+unfolding past
+past-stop t x xs h = rw (lt-leb (x .end) t h)
 
 pub holding : (t a : ℕ) (xs : List Interval) (b : ℕ) → Covers a xs b → a ≤ t → t < b → Holding t xs b
 holding t a [] b c l h = absurd (omega arith)

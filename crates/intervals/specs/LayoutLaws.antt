@@ -22,7 +22,8 @@ use Rattle.intervals.specs.declared.Interval.{Interval}
 use Rattle.intervals.specs.Intervals.{maxIntervals, intervals, past}
 use Rattle.intervals.specs.Spares.{remaining, spares, row}
 use Rattle.intervals.specs.Layout.{blankInterval, placeOf, homes, layoutOf, listed, workAt, sparesFrom, rowIn, pastIn}
-use Rattle.intervals.specs.IntervalLaws.{Covers, ends, intervalAt, start-end-at, intervals-cover, few-intervals, no-intervals}
+use Rattle.intervals.specs.Covers.{Covers, ends, intervalAt}
+use Rattle.intervals.specs.IntervalLaws.{start-end-at, intervals-cover, few-intervals, no-intervals}
 
 -- ---- places by their ends
 

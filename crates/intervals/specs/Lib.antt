@@ -1,8 +1,12 @@
 pub mod Intervals
 pub mod Spares
 pub mod Layout
-pub mod RowLaws
+pub mod Deadlines
 pub mod DeadlineLaws
+pub mod Covers
 pub mod IntervalLaws
 pub mod LayoutLaws
 pub mod Laid
+pub mod LaidLaws
+pub mod Debt
+pub mod RowLaws

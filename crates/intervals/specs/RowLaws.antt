@@ -1,64 +1,29 @@
--- How a row of spares is worked out in naturals: from last to first a debt is carried, what the intervals from here on ask beyond their room.
--- Here are the debt, its law, and the law of the passed intervals. That a layout's row is the plan's stands in LayoutLaws.
-use Prim.Native.Nat.{ℕ, zero, suc, _+_, _-_, _*_, _≤_, _<_, max, min}
+-- A row worked out with a debt is the row of spares, and the sums by home are the work of the places. The words are in Debt;
+-- that a layout's row is the plan's stands in LayoutLaws.
+use Prim.Native.Nat.{ℕ, suc, _+_, _-_, _≤_, _<_}
 use mathlib.Core.Path.{_≡_, refl, sym, ap, _∙_}
 use mathlib.Core.Bool.{Bool, true, false}
-use mathlib.Core.List.{List, [], _∷_, _++_}
-use native.Mathlib.Decide.{decLe, ℕ-discrete}
+use mathlib.Core.List.{List, [], _∷_}
 use native.Mathlib.Omega.{arith}
 use native.Mathlib.Numerals.{add-one}
 use borrow.Author.Tests.{le-leb, lt-leb, lt-ltb, le-ltb, eq-eqb, ne-eqb}
-use lib.IntN.{ℤ, pos, negsuc, subℕ, _+ℤ_}
-use lib.ListN.{getD, set, length, length-set, take, drop, replicate, getD-replicate, length-replicate, length-take, drop-of-length-le}
-use lib.Seq.{take-all, length-take-le, lt-length-set, getD-set-same, getD-set-other, drop-cons, drop-set-lt}
+use lib.IntN.{ℤ, pos, negsuc, subℕ}
+use lib.ListN.{getD, set, length, length-set, take, drop, replicate, getD-replicate, length-replicate, drop-of-length-le}
+use lib.Seq.{length-take-le, getD-set-same, getD-set-other, drop-cons}
 use Rattle.words.specs.Words.{if_then_else_, _≤?_, _<?_, _=?_, filled}
+use Rattle.words.specs.Cases.{by-less, by-equal}
 use Rattle.words.specs.ListLaws.{taken-from}
+use Rattle.words.specs.PartLaws.{drop-replicate, drop-set}
+use Rattle.words.specs.BackLaws.{back-start}
 use Rattle.words.specs.Difference.{Is, is-pos, is-sub, is-add, is-as, is-one}
 use Rattle.plan.specs.Limits.{maxJobs}
 use Rattle.intervals.specs.declared.Interval.{Interval}
-use Rattle.intervals.specs.Intervals.{maxIntervals, past}
+use Rattle.intervals.specs.Intervals.{maxIntervals}
 use Rattle.intervals.specs.Spares.{atMost0, nextSpare, spare}
 use Rattle.intervals.specs.Layout.{blankInterval, workAt, sparesFrom}
+use Rattle.intervals.specs.Debt.{maxWork, room, asked, debtFrom, ByHome, withWork, SumsSoFar, RowSoFar}
 
--- what an interval has left at border t
-abbrev pub room : ℕ → Interval → ℕ
-room t x = x .end - max (x .start) t
-
--- what is asked of an interval: its own work and the debt of the later ones, nothing once it is past
-unfoldable pub asked : ℕ → Interval → ℕ → ℕ → ℕ
-asked t x work debt = if x .end ≤? t then 0 else (work + debt)
-
-pub asked-most : (t : ℕ) (x : Interval) (work debt : ℕ) → asked t x work debt ≤ work + debt
-unfolding asked
-asked-most t x work debt = go (x .end ≤? t)
-  where
-    go : (b : Bool) → (if b then 0 else (work + debt)) ≤ work + debt
-    go true = omega arith
-    go false = omega arith
-
--- the debt of the intervals from place i on
-unfoldable pub debtFrom : ℕ → ℕ → List ℕ → List ℕ → List Interval → ℕ
-debtFrom t i hs ws [] = 0
-debtFrom t i hs ws (x ∷ xs) = asked t x (workAt i hs ws) (debtFrom t (suc i) hs ws xs) - room t x
-
--- sums by place, one with the work of one more job
-abbrev pub SumsBelow : ℕ → List ℕ → Type 0
-SumsBelow bound sums = (i : ℕ) → i < maxIntervals → getD sums i 0 ≤ bound
-
-unfoldable pub withWork : List ℕ → ℕ → ℕ → List ℕ
-withWork sums home work = if home <? maxIntervals then set sums home (getD sums home 0 + work) else sums
-
--- the sums of work by home
-pub record ByHome (hs ws sums : List ℕ) : Type 0 where
-  pub at : (i : ℕ) → i < maxIntervals → getD sums i 0 ≡ workAt i hs ws
-  pub small : SumsBelow (maxJobs * 65535) sums
-
--- after the first k jobs: a place's sum and the work still to come for it are all its work
-pub record SumsSoFar (hs ws sums : List ℕ) (k : ℕ) : Type 0 where
-  pub size : length sums ≡ maxIntervals
-  pub within : k ≤ maxJobs
-  pub whole : (i : ℕ) → i < maxIntervals → getD sums i 0 + workAt i (drop k hs) (drop k ws) ≡ workAt i hs ws
-  pub small : SumsBelow (k * 65535) sums
+-- ---- the sums of work by home
 
 pub sums-start : (hs ws : List ℕ) → SumsSoFar hs ws (replicate maxIntervals 0) 0
 sums-start hs ws = record {
@@ -79,13 +44,13 @@ work-nowhere sums home work h = rw (le-ltb home maxIntervals h)
 -- the sum of place i with one more job
 withWork-at : (sums : List ℕ) (home work i : ℕ) → length sums ≡ maxIntervals → i < maxIntervals → getD (withWork sums home work) i 0 ≡ getD sums i 0 + (if home =? i then work else 0)
 unfolding withWork
-withWork-at sums home work i size l = go (decLe (suc home) maxIntervals) (ℕ-discrete home i)
-  where
-    go : Dec (suc home ≤ maxIntervals) → Dec (home ≡ i) → getD (if home <? maxIntervals then set sums home (getD sums home 0 + work) else sums) i 0 ≡ getD sums i 0 + (if home =? i then work else 0)
-    go (yes p) (yes q) = rw (lt-ltb home maxIntervals p, eq-eqb home i q, ← q, getD-set-same sums home (getD sums home 0 + work) 0 (omega arith))
-    go (yes p) (no q) = rw (lt-ltb home maxIntervals p, ne-eqb home i q, getD-set-other sums home i (getD sums home 0 + work) 0 (λ e. q (sym e))) (omega arith)
-    go (no p) (yes q) = absurd (omega arith)
-    go (no p) (no q) = rw (le-ltb home maxIntervals (omega arith), ne-eqb home i q) (omega arith)
+withWork-at sums home work i size l =
+    let sum = getD sums home 0 + work in
+    by-equal home i
+    (λ q. rw (lt-ltb home maxIntervals (omega arith), eq-eqb home i q, ← q, getD-set-same sums home sum 0 (omega arith)))
+    (λ q. by-less home maxIntervals
+    (λ p. rw (lt-ltb home maxIntervals p, ne-eqb home i q, getD-set-other sums home i sum 0 (λ e. q (sym e))) (omega arith))
+    (λ p. rw (le-ltb home maxIntervals p, ne-eqb home i q) (omega arith)))
 
 length-with : (sums : List ℕ) (home work : ℕ) → length sums ≡ maxIntervals → length (withWork sums home work) ≡ maxIntervals
 unfolding withWork
@@ -99,14 +64,14 @@ at-most : (b : Bool) (n bound : ℕ) → n ≤ bound → (if b then n else 0) �
 at-most true n bound h = h
 at-most false n bound h = omega arith
 
-pub sums-more : (hs ws sums next : List ℕ) (k : ℕ) → SumsSoFar hs ws sums k → k < maxJobs → length hs ≡ maxJobs → length ws ≡ maxJobs → getD ws k 0 < 65536
+pub sums-more : (hs ws sums next : List ℕ) (k : ℕ) → SumsSoFar hs ws sums k → k < maxJobs → length hs ≡ maxJobs → length ws ≡ maxJobs → getD ws k 0 ≤ maxWork
     → next ≡ withWork sums (getD hs k 0) (getD ws k 0) → SumsSoFar hs ws next (k + 1)
 unfolding workAt
 sums-more hs ws sums next k s l lh lw small e = rw e (record {
   size = length-with sums (getD hs k 0) (getD ws k 0) (s .size);
   within = omega arith;
   whole = λ i h. rw (withWork-at sums (getD hs k 0) (getD ws k 0) i (s .size) h) (let w = s .whole i h in let d = split i in omega arith);
-  small = λ i h. rw (withWork-at sums (getD hs k 0) (getD ws k 0) i (s .size) h) (let w = s .small i h in let b = at-most (getD hs k 0 =? i) (getD ws k 0) 65535 (omega arith) in omega arith);
+  small = λ i h. rw (withWork-at sums (getD hs k 0) (getD ws k 0) i (s .size) h) (let w = s .small i h in let b = at-most (getD hs k 0 =? i) (getD ws k 0) maxWork (omega arith) in omega arith);
 })
   where
     split : (i : ℕ) → workAt i (drop k hs) (drop k ws) ≡ (if getD hs k 0 =? i then getD ws k 0 else 0) + workAt i (drop (k + 1) hs) (drop (k + 1) ws)
@@ -120,6 +85,16 @@ sums-end hs ws sums k s l lh =
     let w : (i : ℕ) → i < maxIntervals → getD sums i 0 + workAt i [] (drop k ws) ≡ workAt i hs ws = rw d at (s .whole) in
     record { at = λ i h. omega (arith, w i h); small = λ i h. omega (arith, s .small i h) }
 
+-- ---- a spare by room and debt
+
+pub asked-most : (t : ℕ) (x : Interval) (work debt : ℕ) → asked t x work debt ≤ work + debt
+unfolding asked
+asked-most t x work debt = go (x .end ≤? t)
+  where
+    go : (b : Bool) → (if b then 0 else (work + debt)) ≤ work + debt
+    go true = omega arith
+    go false = omega arith
+
 -- min (p - m, 0) is -(m - p)
 lowered : {z : ℤ} {p m : ℕ} → Is z p m → Is (atMost0 z) 0 (m - p)
 lowered {z = pos n} h = omega arith
@@ -128,12 +103,10 @@ lowered {z = negsuc n} h = omega arith
 -- a spare is one difference of naturals
 spare-is : (t : ℕ) (x : Interval) (work debt : ℕ) (next : ℤ) → Is (atMost0 next) 0 debt → Is (spare t x work next) (room t x) (asked t x work debt)
 unfolding spare asked
-spare-is t x work debt next h = go (decLe (x .end) t)
-  where
-    go : Dec (x .end ≤ t)
-        → Is (if x .end ≤? t then pos 0 else (subℕ (x .end - max (x .start) t) work +ℤ atMost0 next)) (room t x) (if x .end ≤? t then 0 else (work + debt))
-    go (yes l) = rw (le-leb (x .end) t l) (is-as (is-pos 0) (omega arith))
-    go (no l) = rw (lt-leb (x .end) t (omega arith)) (is-as (is-add (is-sub (room t x) work) h) (omega arith))
+spare-is t x work debt next h =
+    by-less t (x .end)
+    (λ l. rw (lt-leb (x .end) t l) (is-as (is-add (is-sub (room t x) work) h) (omega arith)))
+    (λ l. rw (le-leb (x .end) t l) (is-as (is-pos 0) (omega arith)))
 
 -- the debt is what the smaller of (next spare, 0) takes away
 pub debt-is : (t i : ℕ) (hs ws : List ℕ) (xs : List Interval) → Is (atMost0 (nextSpare (sparesFrom t i hs ws xs))) 0 (debtFrom t i hs ws xs)
@@ -150,50 +123,18 @@ spares-step t i hs ws x xs =
     let later : List ℤ = sparesFrom t (suc i) hs ws xs in
     ap (λ (z : ℤ). z ∷ later) (is-one (spare-is t x (workAt i hs ws) d (nextSpare later) (debt-is t (suc i) hs ws xs)) (is-sub (room t x) (asked t x (workAt i hs ws) d)) (omega arith))
 
--- a count beyond an array takes all of it
-pub take-min : {A : Type 0} (n m : ℕ) (xs : List A) → length xs ≡ m → take (min n m) xs ≡ take n xs
-take-min n m xs l = go (decLe n m)
-  where
-    go : Dec (n ≤ m) → take (min n m) xs ≡ take n xs
-    go (yes h) = let e : min n m ≡ n = omega arith in rw e
-    go (no h) = take-all (min n m) xs (omega arith) ∙ sym (take-all n xs (omega arith))
-
--- an interval that has ended is past, and the count goes on behind it
-pub past-more : (t : ℕ) (x : Interval) (xs : List Interval) → x .end ≤ t → past t (x ∷ xs) ≡ suc (past t xs)
-unfolding past
-past-more t x xs h = rw (le-leb (x .end) t h)
-
--- one that has not ends the count
-pub past-stop : (t : ℕ) (x : Interval) (xs : List Interval) → t < x .end → past t (x ∷ xs) ≡ 0
-unfolding past
-past-stop t x xs h = rw (lt-leb (x .end) t h)
+-- ---- the row, last interval first
 
 length-spares : (t i : ℕ) (hs ws : List ℕ) (xs : List Interval) → length (sparesFrom t i hs ws xs) ≡ length xs
 unfolding sparesFrom
 length-spares t i hs ws [] = refl
 length-spares t i hs ws (x ∷ xs) = ap suc (length-spares t (suc i) hs ws xs)
 
-drop-replicate : {A : Type 0} (n m : ℕ) (a : A) → drop n (replicate m a) ≡ replicate (m - n) a
-drop-replicate zero m a = let e : m - 0 ≡ m = omega arith in rw e
-drop-replicate (suc n) zero a = let e : 0 - suc n ≡ 0 = omega arith in rw e
-drop-replicate (suc n) (suc m) a = let e : suc m - suc n ≡ m - n = omega arith in rw e (drop-replicate n m a)
-
-drop-set : {A : Type 0} (l : List A) (i : ℕ) (a d : A) → i < length l → drop i (set l i a) ≡ a ∷ drop (suc i) l
-drop-set l i a d h = rw (drop-cons (set l i a) i d (lt-length-set l i a h), getD-set-same l i a d h, drop-set-lt (suc i) l i a (omega arith))
-
--- the row from place i on is made, and the debt is known
-pub record RowSoFar (t n : ℕ) (hs ws : List ℕ) (xs : List Interval) (row : List ℤ) (debt i : ℕ) : Type 0 where
-  pub size : length row ≡ maxIntervals
-  pub within : i ≤ n
-  pub owed : debt ≡ debtFrom t i hs ws (drop i (take n xs))
-  pub small : debt ≤ (n - i) * (maxJobs * 65535)
-  pub made : drop i row ≡ sparesFrom t i hs ws (drop i (take n xs)) ++ replicate (maxIntervals - n) (pos 0)
-
 module _ (t n : ℕ) (hs ws : List ℕ) (xs : List Interval) (few : n ≤ maxIntervals) (long : length xs ≡ maxIntervals) where
   pub row-start : RowSoFar t n hs ws xs (replicate maxIntervals (pos 0)) 0 n
   unfolding sparesFrom debtFrom
   row-start =
-      let d : drop n (take n xs) ≡ [] = drop-of-length-le (take n xs) {i = n} (omega (arith, length-take n xs)) in
+      let d : drop n (take n xs) ≡ [] = back-start xs n (omega arith) in
       record {
         size = length-replicate maxIntervals (pos 0);
         within = omega arith;

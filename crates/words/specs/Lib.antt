@@ -6,3 +6,4 @@ pub mod Difference
 pub mod FilledLaws
 pub mod BackLaws
 pub mod PassedLaws
+pub mod PartLaws

@@ -1,7 +1,7 @@
 -- `intervals::asked_of` meets its contract: by whether the interval is past.
 use borrow.Author.Needs.{needs}
 use borrow.Author.Tests.{le-leb, lt-leb}
-use Rattle.intervals.specs.RowLaws.{asked}
+use Rattle.intervals.specs.Debt.{asked}
 use Rattle.intervals.proofs.asked_of.Statement.{statement}
 use Rattle.intervals.proofs.asked_of.Tie as tie
 

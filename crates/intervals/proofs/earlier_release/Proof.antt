@@ -1,6 +1,6 @@
 -- `intervals::earlier_release` meets its contract: by whether the deadline is e.
 use borrow.Author.Tests.{eq-eqb, ne-eqb}
-use Rattle.intervals.specs.DeadlineLaws.{earlierRelease}
+use Rattle.intervals.specs.Deadlines.{earlierRelease}
 use borrow.Author.Needs.{needs}
 use Rattle.intervals.proofs.earlier_release.Statement.{statement}
 use Rattle.intervals.proofs.earlier_release.Tie as tie

@@ -7,8 +7,10 @@ use mathlib.Core.Path.{_≡_}
 use mathlib.Core.List.{map}
 use lib.ListN.{length, take, length-take}
 use Rattle.plan.specs.Limits.{maxJobs}
-use Rattle.intervals.specs.DeadlineLaws.{nextAbove, next-above}
-use Rattle.intervals.specs.Laid.{BuiltTo, build-start, build-room, build-on, build-last-room, build-end}
+use Rattle.intervals.specs.Deadlines.{nextAbove}
+use Rattle.intervals.specs.DeadlineLaws.{next-above}
+use Rattle.intervals.specs.Laid.{BuiltTo}
+use Rattle.intervals.specs.LaidLaws.{build-start, build-room, build-on, build-last-room, build-end}
 use borrow.Author.Needs.{needs}
 use Rattle.intervals.proofs.intervals_of.Statement.{statement}
 use Rattle.intervals.proofs.intervals_of.Tie as tie

@@ -3,7 +3,7 @@ use mathlib.Core.Path.{_≡_}
 use lib.ListN.{length}
 use Rattle.words.specs.ListLaws.{long}
 use Rattle.plan.specs.Limits.{maxJobs}
-use Rattle.intervals.specs.Laid.{laid-homed}
+use Rattle.intervals.specs.LaidLaws.{laid-homed}
 use borrow.Author.Needs.{needs}
 use Rattle.intervals.proofs.layout_of.Statement.{statement}
 use Rattle.intervals.proofs.layout_of.Tie as tie

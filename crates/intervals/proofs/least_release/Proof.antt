@@ -8,7 +8,7 @@ use Rattle.words.specs.BackLaws.{back-start, back-step}
 use Rattle.plan.specs.Limits.{maxJobs}
 use Rattle.plan.specs.Plan.{blankJob}
 use Rattle.intervals.specs.Intervals.{leastRelease}
-use Rattle.intervals.specs.DeadlineLaws.{earlierRelease}
+use Rattle.intervals.specs.Deadlines.{earlierRelease}
 use borrow.Author.Needs.{needs}
 use Rattle.intervals.proofs.least_release.Statement.{statement}
 use Rattle.intervals.proofs.least_release.Tie as tie

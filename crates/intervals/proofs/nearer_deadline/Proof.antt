@@ -1,6 +1,6 @@
 -- `intervals::nearer_deadline` meets its contract: by whether the deadline is above the border.
 use borrow.Author.Tests.{lt-ltb, le-ltb}
-use Rattle.intervals.specs.DeadlineLaws.{nearer}
+use Rattle.intervals.specs.Deadlines.{nearer}
 use borrow.Author.Needs.{needs}
 use Rattle.intervals.proofs.nearer_deadline.Statement.{statement}
 use Rattle.intervals.proofs.nearer_deadline.Tie as tie

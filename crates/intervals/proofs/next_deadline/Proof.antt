@@ -8,7 +8,7 @@ use Rattle.words.specs.ListLaws.{long}
 use Rattle.words.specs.BackLaws.{back-start, back-step}
 use Rattle.plan.specs.Limits.{maxJobs}
 use Rattle.plan.specs.Plan.{blankJob}
-use Rattle.intervals.specs.DeadlineLaws.{nearer, nextAbove}
+use Rattle.intervals.specs.Deadlines.{nearer, nextAbove}
 use borrow.Author.Needs.{needs}
 use Rattle.intervals.proofs.next_deadline.Statement.{statement}
 use Rattle.intervals.proofs.next_deadline.Tie as tie

@@ -8,7 +8,8 @@ use Rattle.words.specs.ListLaws.{long}
 use Rattle.words.specs.PassedLaws.{passed-on, passed-here, passed-all}
 use Rattle.intervals.specs.Intervals.{maxIntervals, past}
 use Rattle.intervals.specs.Layout.{blankInterval, listed, pastIn}
-use Rattle.intervals.specs.RowLaws.{past-stop, past-more, take-min}
+use Rattle.words.specs.PartLaws.{take-min}
+use Rattle.intervals.specs.IntervalLaws.{past-stop, past-more}
 use Rattle.intervals.proofs.past_of.Statement.{statement}
 use Rattle.intervals.proofs.past_of.Tie as tie
 

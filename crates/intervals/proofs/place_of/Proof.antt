@@ -8,7 +8,7 @@ use Rattle.words.specs.ListLaws.{long}
 use Rattle.words.specs.PassedLaws.{passed-on, passed-here, passed-all}
 use Rattle.intervals.specs.Intervals.{maxIntervals}
 use Rattle.intervals.specs.Layout.{blankInterval, listed, placeOf}
-use Rattle.intervals.specs.RowLaws.{take-min}
+use Rattle.words.specs.PartLaws.{take-min}
 use Rattle.intervals.specs.LayoutLaws.{place-here, place-on}
 use Rattle.intervals.proofs.place_of.Statement.{statement}
 use Rattle.intervals.proofs.place_of.Tie as tie

@@ -9,16 +9,17 @@ use mir.Val.{toZ, ofZ}
 use mir.Facts.{toZ-ofZ}
 use borrow.Author.Needs.{needs}
 use Rattle.words.specs.ListLaws.{long}
-use Rattle.plan.specs.Limits.{maxJobs}
 use Rattle.intervals.specs.Intervals.{maxIntervals}
 use Rattle.intervals.specs.Layout.{blankInterval, rowIn}
-use Rattle.intervals.specs.RowLaws.{ByHome, RowSoFar, row-start, row-turn, row-end, asked-most, take-min}
+use Rattle.words.specs.PartLaws.{take-min}
+use Rattle.intervals.specs.Debt.{maxPlaceWork, ByHome, RowSoFar}
+use Rattle.intervals.specs.RowLaws.{row-start, row-turn, row-end, asked-most}
 use Rattle.intervals.proofs.row_of.Statement.{statement}
 use Rattle.intervals.proofs.row_of.Tie as tie
 
 abbrev Inv-loop : tie.InvT-loop
 Inv-loop t sums interval row₀ debt₀ i₀ row debt i =
-    (i ≤ i₀) × (debt ≤ (i₀ - i) * (maxJobs * 65535)) × ((hs ws : List ℕ) → ByHome hs ws sums → RowSoFar t i₀ hs ws interval row debt i)
+    (i ≤ i₀) × (debt ≤ (i₀ - i) * maxPlaceWork) × ((hs ws : List ℕ) → ByHome hs ws sums → RowSoFar t i₀ hs ws interval row debt i)
 
 abbrev μ-loop : tie.MeasureT-loop
 μ-loop t sums interval row₀ debt₀ i₀ row debt i = i
@@ -60,7 +61,7 @@ asked-of-requires c κs =
     let l = c .before .before .before .loop in
     omega (arith, c .before .before .before .before .before .before .work-by-home .ensures .small (l .i - 1) (search needs))
 
-asks : (c : tie.After-asked-of Inv-loop μ-loop) → c .asked-of .result ≤ ((c .before .before .before .before .before .capped .result - c .before .before .before .before .loop .i) + 1) * (maxJobs * 65535)
+asks : (c : tie.After-asked-of Inv-loop μ-loop) → c .asked-of .result ≤ ((c .before .before .before .before .before .capped .result - c .before .before .before .before .loop .i) + 1) * maxPlaceWork
 asks c =
     let l = c .before .before .before .before .loop in
     let start = c .before .before .before .before .before .before .before .before .before in

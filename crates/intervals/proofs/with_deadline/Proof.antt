@@ -3,7 +3,7 @@ use Prim.Native.Nat.{max}
 use mathlib.Core.Path.{_≡_, _∙_, ap}
 use lib.ListN.{take}
 use Rattle.intervals.specs.Intervals.{leastRelease, gap}
-use Rattle.intervals.specs.Laid.{room-first, room-second, laid-both}
+use Rattle.intervals.specs.LaidLaws.{room-first, room-second, laid-both}
 use borrow.Author.Needs.{needs}
 use Rattle.intervals.proofs.with_deadline.Statement.{statement}
 use Rattle.intervals.proofs.with_deadline.Tie as tie

@@ -1,6 +1,6 @@
 -- `intervals::with_gap` meets its contract: by whether there is a gap.
 use borrow.Author.Tests.{lt-ltb, le-ltb}
-use Rattle.intervals.specs.Laid.{laid-same}
+use Rattle.intervals.specs.LaidLaws.{laid-same}
 use Rattle.intervals.proofs.with_gap.Statement.{statement}
 use Rattle.intervals.proofs.with_gap.Tie as tie
 

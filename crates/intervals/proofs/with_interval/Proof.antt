@@ -1,6 +1,6 @@
 -- `intervals::with_interval` meets its contract: a store at the count is one interval more.
 use native.Mathlib.Omega.{arith}
-use Rattle.intervals.specs.Laid.{laid-more, laid-count}
+use Rattle.intervals.specs.LaidLaws.{laid-more, laid-count}
 use borrow.Author.Needs.{needs}
 use Rattle.intervals.proofs.with_interval.Statement.{statement}
 use Rattle.intervals.proofs.with_interval.Tie as tie

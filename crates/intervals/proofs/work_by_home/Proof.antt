@@ -7,7 +7,8 @@ use lib.ListN.{getD}
 use mir.Syntax.{w16}
 use mir.Val.{Fits}
 use Rattle.plan.specs.Limits.{maxJobs}
-use Rattle.intervals.specs.RowLaws.{SumsSoFar, sums-start, sums-more, sums-end, withWork, work-counted, work-nowhere}
+use Rattle.intervals.specs.Debt.{SumsSoFar, withWork}
+use Rattle.intervals.specs.RowLaws.{sums-start, sums-more, sums-end, work-counted, work-nowhere}
 use borrow.Author.Needs.{needs}
 use Rattle.intervals.proofs.work_by_home.Statement.{statement}
 use Rattle.intervals.proofs.work_by_home.Tie as tie
@@ -74,7 +75,7 @@ loop-again : tie.Need-loop-again Inv-loop μ-loop
 loop-again c =
     let l = c .before .before .before .loop in
     let a = c .before .before .before .before .args in
-    sums-more (a .t1) (a .t2) (l .sums) (c .if1 .sums) (l .k) (l .inv) (search needs) (search needs) (search needs) (small (c .before) .fits)
+    sums-more (a .t1) (a .t2) (l .sums) (c .if1 .sums) (l .k) (l .inv) (search needs) (search needs) (search needs) (omega (arith, small (c .before) .fits))
     (rw (← c .before .wide .ensures .0) (summed c))
 
 returns : tie.Need-returns Inv-loop μ-loop
