@@ -1,11 +1,11 @@
--- The round trip, over the definitions: what is written reads back to an equal plan, what is read writes back to the same bytes, and a plan has one text.
+-- The round trip, over the definitions and over what the functions promise: what is written reads back to an equal plan, what is read writes back to the same bytes, and a plan has one text.
 use Prim.Native.Nat.{ℕ, _+_, _-_, _≤_}
 use native.Mathlib.Omega.{arith}
 use mathlib.Core.Path.{_≡_, refl, sym, ap, _∙_}
 use mathlib.Core.Bool.{Bool, true, false}
 use mathlib.Core.List.{List, [], _∷_, _++_, append-nil}
-use lib.ListN.{length, drop}
-use lib.Seq.{take-at, length-take-le}
+use lib.ListN.{length, take, drop}
+use lib.Seq.{take-at, take-append-seam, drop-append-seam, length-take-le}
 use borrow.Author.Tests.{eqb-true}
 use Rattle.words.specs.Words.{if_then_else_, _=?_}
 use Rattle.answers.specs.declared.Answer.{Answer}
@@ -20,7 +20,7 @@ use Rattle.plan_text.specs.declared.PlanRead.{PlanRead}
 use Rattle.plan_text.specs.Read.{planText, levelIn, nextJob, nextPlan, onlyPlan, startOf, planRead, readPlan}
 use Rattle.plan_text.specs.Write.{writeAnswer, writeOut}
 use Rattle.plan_text.specs.RoundLaws.{Writable, cleared, one-to, plan-there, plan-back}
-use Rattle.plan_text.specs.WriteLaws.{accepted-writable, writable-answer, writable-out}
+use Rattle.plan_text.specs.WriteLaws.{accepted-writable, accepted-room, writable-answer, writable-out}
 
 -- ---- what is written reads back
 
@@ -140,3 +140,42 @@ text-same p q room lp tp lq tq hp hq e =
     let x = a .1 in
     let y = b .1 in
     (ap (λ (r : Plan). r .slots) c, ap (λ (r : Plan). r .jobs) c, sym (x .2) ∙ ap jobsOf c ∙ y .2, sym (x .3) ∙ ap slotsOf c ∙ y .3)
+
+-- writable plans are equal exactly when their texts are the same
+pub one-text : (p q : Plan) (room : ℕ) → length (p .job) ≡ maxJobs → length (p .table) ≡ maxSlots → length (q .job) ≡ maxJobs → length (q .table) ≡ maxSlots
+    → accepted (writeAnswer p room) ≡ true → accepted (writeAnswer q room) ≡ true
+    → (SamePlan p q → planText p ≡ planText q) × (planText p ≡ planText q → SamePlan p q)
+one-text p q room lp tp lq tq hp hq = (same-text p q, text-same p q room lp tp lq tq hp hq)
+
+-- ---- the same of what the functions promise
+
+-- the writer's answer and output on a plan, and the reader's answer on the bytes written: an equal plan, blank beyond n and N
+module _ (p : Plan) (lj : length (p .job) ≡ maxJobs) (lt : length (p .table) ≡ maxSlots) (out o : List ℕ) (n : ℕ) (r : PlanRead) where
+  pub write-then-read : Written n ≡ writeAnswer p (length out) → o ≡ writeOut p out → r ≡ readPlan (take n o)
+      → (r ≡ record { answer = Accepted; plan = cleared p }) × SamePlan (r .plan) p
+  unfolding accepted
+  write-then-read ea eo er =
+      let w : Writable p = accepted-writable p (length out) (ap accepted (sym ea)) in
+      let room : length (planText p) ≤ length out = accepted-room p w (length out) (ap accepted (sym ea)) in
+      let long : length (planText p) ≡ n = written-bytes (writable-answer p w (length out) room) in
+      let text : take n o ≡ planText p = ap (take n) (eo ∙ writable-out p w out room) ∙ take-at (planText p) _ n long in
+      let e : r ≡ record { answer = Accepted; plan = cleared p } = er ∙ ap readPlan text ∙ text-reads p lj lt w in
+      (e, same-read (r .plan) (ap (λ (x : PlanRead). x .plan) e) (cleared-same p lj lt w))
+    where
+      written-bytes : writeAnswer p (length out) ≡ Written (length (planText p)) → length (planText p) ≡ n
+      written-bytes e = let f : Written n ≡ Written (length (planText p)) = ea ∙ e in cc
+
+      same-read : (q : Plan) → q ≡ cleared p → SamePlan (cleared p) p → SamePlan q p
+      same-read q e h = rw e h
+
+-- the reader's answer on a text, and the writer's answer and output on its plan: the same bytes, and those past them as they were
+module _ (s out o : List ℕ) (r : PlanRead) (a : Answer) where
+  pub read-then-write : r ≡ readPlan s → r .answer ≡ Accepted → length s ≤ length out → a ≡ writeAnswer (r .plan) (length out) → o ≡ writeOut (r .plan) out
+      → (a ≡ Written (length s)) × (take (length s) o ≡ s) × (drop (length s) o ≡ drop (length s) out)
+  read-then-write e h room ea eo =
+      let w = read-written s out (sym (ap (λ (x : PlanRead). x .answer) e) ∙ h) room in
+      let q : writeOut (r .plan) out ≡ s ++ drop (length s) out = ap (λ (x : PlanRead). writeOut (x .plan) out) e ∙ w .1 in (
+        ea ∙ ap (λ (x : PlanRead). writeAnswer (x .plan) (length out)) e ∙ w .0,
+        ap (take (length s)) (eo ∙ q) ∙ take-append-seam s _,
+        ap (drop (length s)) (eo ∙ q) ∙ drop-append-seam s _,
+      )

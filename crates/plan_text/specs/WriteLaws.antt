@@ -8,7 +8,7 @@ use lib.ListN.{length, drop}
 use borrow.Author.Tests.{le-leb, leb-true}
 use Rattle.words.specs.Words.{if_then_else_, _≤?_}
 use Rattle.answers.specs.declared.Answer.{Answer}
-use Rattle.answers.specs.declared.Answer.the-variants.{Accepted, Written, Form}
+use Rattle.answers.specs.declared.Answer.the-variants.{Accepted, Written, Form, NoRoom}
 use Rattle.answers.specs.Answer.{accepted, _unless_, _andThen_, firstRefusal}
 use Rattle.plan.specs.declared.Plan.{Plan}
 use Rattle.plan.specs.Limits.{maxSlots, maxJobs, maxNumber}
@@ -95,6 +95,15 @@ module _ (p : Plan) (w : Writable p) where
           all-append Small (flatMap numbersIn (jobsOf p)) (slotsOf p) (all-flat Small numbersIn (jobsOf p) (w .small-jobs)) (w .small-slots),
         ),
       )
+
+  -- an accepted write had room for the text
+  pub accepted-room : (room : ℕ) → accepted (writeAnswer p room) ≡ true → length (planText p) ≤ room
+  unfolding writeAnswer check2 check3 accepted
+  accepted-room room h = fits-room (length (planText p) ≤? room) (leb-true (length (planText p)) room) (rw (w .slots-fit, w .jobs-fit, numbers-fit) at h)
+    where
+      fits-room : (x : Bool) → (x ≡ true → length (planText p) ≤ room) → accepted ((NoRoom (length (planText p)) unless x) andThen Written (length (planText p))) ≡ true → length (planText p) ≤ room
+      fits-room true f h = f refl
+      fits-room false f h = absurd (let z : _≡_ {A = ℕ} 0 1 = cc in omega arith)
 
   -- a plan that can be written is accepted where its text has room
   pub writable-answer : (room : ℕ) → length (planText p) ≤ room → writeAnswer p room ≡ Written (length (planText p))
