@@ -335,7 +335,8 @@ pub fn row_of(l: Layout, t: u16, work: [u16; plan::JOBS]) -> [i32; INTERVALS]
         i -= 1;
         let x = interval[i];
         let free = room_left(x, t);
-        let ask = asked_of(x, t, sums[i], debt);
+        let own = sums[i];
+        let ask = asked_of(x, t, own, debt);
         row[i] = signed(free, ask);
         debt = over(ask, free);
     }

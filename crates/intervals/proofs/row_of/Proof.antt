@@ -50,11 +50,11 @@ array-copy-out-x c = search needs
 room-left-requires : tie.Need-room-left-requires Inv-loop μ-loop
 room-left-requires c κs = search needs
 
-mul-asked-of : tie.Need-mul-asked-of Inv-loop μ-loop
-mul-asked-of c = search needs
+mul-own : tie.Need-mul-own Inv-loop μ-loop
+mul-own c = search needs
 
-array-read-asked-of : tie.Need-array-read-asked-of Inv-loop μ-loop
-array-read-asked-of c = search needs
+array-read-own : tie.Need-array-read-own Inv-loop μ-loop
+array-read-own c = search needs
 
 asked-of-requires : tie.Need-asked-of-requires Inv-loop μ-loop
 asked-of-requires c κs =
@@ -136,8 +136,8 @@ row-of-spec =
     mul-x
     array-copy-out-x
     room-left-requires
-    mul-asked-of
-    array-read-asked-of
+    mul-own
+    array-read-own
     asked-of-requires
     signed-requires
     mul-row
