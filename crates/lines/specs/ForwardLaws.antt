@@ -1,6 +1,6 @@
 -- A reader goes forward: what it leaves of the text is an end of it, and a refusal is one of the refusing answers.
 -- It holds of a field, of one reader after another, and of many of one kind; so it holds of every reader made of these.
-use mathlib.Core.Path.{_≡_, refl, sym, ap, _∙_}
+use mathlib.Core.Path.{_≡_, refl, ap, _∙_}
 use mathlib.Core.Bool.{Bool, true, false, _&&_}
 use mathlib.Core.List.{List}
 use mathlib.Core.Option.{Option, none, some}
@@ -11,10 +11,9 @@ use lib.ListN.{length, take, drop, length-drop}
 use lib.Seq.{drop-drop}
 use borrow.Author.Tests.{ltb-true}
 use Rattle.answers.specs.declared.Answer.{Answer}
-use Rattle.answers.specs.declared.Answer.the-variants.{Form}
-use Rattle.answers.specs.Answer.{accepted, _unless_}
-use Rattle.words.specs.Words.{if_then_else_, _<?_, _=?_}
-use Rattle.lines.specs.Lines.{bytes, Cursor, Read, got, refused, Reader, onward, must, many, lineLength, begins, lineOn, orForm, valueIn, field, nothingAfter}
+use Rattle.answers.specs.Answer.{accepted}
+use Rattle.words.specs.Words.{if_then_else_, _<?_}
+use Rattle.lines.specs.Lines.{bytes, Cursor, Read, got, refused, Reader, onward, must, many, lineLength, begins, orForm, valueIn, field}
 
 -- s is the end of t from some place on
 pub record EndOf (s t : List ℕ) : Type 0 where
@@ -52,7 +51,8 @@ end-of-end : {A : Type 0} {s t : List ℕ} (r : Read A) → EndOf s t → Forwar
 end-of-end (got a here) f e = end-end e f
 end-of-end (refused answer) f e = e
 
-pub onward-forward : {A B : Type 0} (t : List ℕ) (r : Read A) (rest : A → Reader B) → Forward t r → ((a : A) → GoesForward (rest a)) → Forward t (onward r rest)
+pub onward-forward : {A B : Type 0} (t : List ℕ) (r : Read A) (rest : A → Reader B)
+    → Forward t r → ((a : A) → GoesForward (rest a)) → Forward t (onward r rest)
 onward-forward t (got a here) rest f g = end-of-end (rest a here) f (g a here)
 onward-forward t (refused answer) rest f g = f
 
@@ -72,7 +72,8 @@ many-forward (suc k) one f here =
 
 pub field-forward : {A : Type 0} (meaning : List ℕ → Option A) (key : String) → GoesForward (field meaning key)
 unfolding field valueIn accepted
-field-forward {A} meaning key here = inner (lineLength (here .text) <? length (here .text)) (begins (bytes key) (take (lineLength (here .text)) (here .text))) refl
+field-forward {A} meaning key here =
+    inner (lineLength (here .text) <? length (here .text)) (begins (bytes key) (take (lineLength (here .text)) (here .text))) refl
   where
     meant : (o : Option A) → lineLength (here .text) < length (here .text) → Forward (here .text) (orForm o here)
     meant (some a) h = record { place = suc (lineLength (here .text)); within = h; same = refl }

@@ -3,7 +3,7 @@
 use mathlib.Core.Path.{_≡_, refl, sym, ap, _∙_}
 use mathlib.Core.Bool.{false}
 use mathlib.Core.List.{List, [], _∷_, _++_, append-nil}
-use Prim.Native.Nat.{ℕ, zero, suc, _+_, _-_, _*_, _≤_, _<_}
+use Prim.Native.Nat.{ℕ, suc, _+_, _-_, _*_, _≤_, _<_}
 use native.Mathlib.Nat.{sub-zero, add-zero, mul-zero, mul-suc}
 use native.Mathlib.Numerals.{add-one}
 use native.Mathlib.Omega.{arith}
@@ -26,7 +26,8 @@ module _ {A : Type 0} where
   after-none (got xs here) = refl
   after-none (refused answer) = refl
 
-  after-one : (front : List A) (x : A) (r : Read (List A)) → after front (onward r (λ others. give (x ∷ others))) ≡ after (front ++ (x ∷ [])) r
+  after-one : (front : List A) (x : A) (r : Read (List A))
+      → after front (onward r (λ others. give (x ∷ others))) ≡ after (front ++ (x ∷ [])) r
   after-one front x (got xs here) = ap (λ (ys : List A). got ys here) (sym (append-snoc front x xs))
   after-one front x (refused answer) = refl
 
@@ -37,7 +38,8 @@ module _ {A : Type 0} where
   onward-filled size blank (refused answer) rest = refl
 
   module _ (one : Reader A) (size : ℕ) (blank : A) (count : ℕ) (start : Cursor) where
-    many-on : (k : ℕ) (here there : Cursor) (x : A) → one here ≡ got x there → many (suc k) one here ≡ onward (many k one there) (λ others. give (x ∷ others))
+    many-on : (k : ℕ) (here there : Cursor) (x : A) → one here ≡ got x there
+        → many (suc k) one here ≡ onward (many k one there) (λ others. give (x ∷ others))
     unfolding many
     many-on k here there x e = rw e
 
@@ -86,7 +88,8 @@ module _ {A : Type 0} where
             long = length-set array i x ∙ inv .long;
           }
 
-      pub filling-stops : (answer : Answer) → i < count → one here ≡ refused answer → filledRead size blank (many count one start) ≡ refused answer
+      pub filling-stops : (answer : Answer) → i < count → one here ≡ refused answer
+          → filledRead size blank (many count one start) ≡ refused answer
       filling-stops answer h e =
           let left : count - i ≡ suc (count - (i + 1)) = omega arith in
           rw (inv .read, left, many-stop (count - (i + 1)) here answer e)
@@ -109,14 +112,21 @@ module _ {A : Type 0} (one : Reader A) (step size : ℕ) (blank : A) (count : �
 
   pub filling-at-starts : at ≤ length t → FillingAt (replicate size blank) at line 0
   filling-at-starts h =
-      record { filling = filling-starts one size blank count (standing t at line); lines = sym (ap (λ (k : ℕ). line + k) (mul-zero step) ∙ add-zero line); within = h }
+      record {
+        filling = filling-starts one size blank count (standing t at line);
+        lines = sym (ap (λ (k : ℕ). line + k) (mul-zero step) ∙ add-zero line);
+        within = h;
+      }
 
   module _ (few : count ≤ size) (array : List A) (next l i : ℕ) (inv : FillingAt array next l i) where
-    pub filling-at-on : i < count → (x : A) (after : ℕ) → after ≤ length t → one (standing t next l) ≡ got x (standing t after (l + step)) → FillingAt (set array i x) after (l + step) (i + 1)
+    pub filling-at-on : i < count → (x : A) (after : ℕ) → after ≤ length t
+        → one (standing t next l) ≡ got x (standing t after (l + step)) → FillingAt (set array i x) after (l + step) (i + 1)
     filling-at-on h x after w e =
         let more : step * (i + 1) ≡ step * i + step = rw add-one (mul-suc step i) in
         record {
-          filling = filling-on one size blank count (standing t at line) few array (standing t next l) i (inv .filling) x (standing t after (l + step)) h e;
+          filling =
+              filling-on one size blank count (standing t at line) few array (standing t next l) i (inv .filling)
+              x (standing t after (l + step)) h e;
           lines = omega (arith, inv .lines, more);
           within = w;
         }
@@ -129,7 +139,8 @@ module _ {A : Type 0} (one : Reader A) (step size : ℕ) (blank : A) (count : �
           within = omega arith;
         }
 
-    pub filling-at-ends : count ≤ i → ArrayHere t (line + step * count) Accepted array next (filledRead size blank (many count one (standing t at line)))
+    pub filling-at-ends : count ≤ i
+        → ArrayHere t (line + step * count) Accepted array next (filledRead size blank (many count one (standing t at line)))
     unfolding accepted
     filling-at-ends h =
         let all : i ≡ count = omega (arith, inv .filling .low) in

@@ -1,5 +1,5 @@
 -- Laws of reading by place: the ways to find a value, which texts are numbers, and that a field at a place is the definitions' field.
-use mathlib.Core.Path.{_≡_, refl, sym, ap, _∙_}
+use mathlib.Core.Path.{_≡_, refl, sym, ap}
 use mathlib.Core.List.{List, [], _∷_}
 use mathlib.Core.Bool.{Bool, true, false, _&&_, _||_}
 use mathlib.Core.Option.{Option, none, some}
@@ -10,21 +10,18 @@ use native.Mathlib.Nat.{sub-zero}
 use native.Mathlib.Omega.{arith}
 use lib.ListN.{length, getD, take, drop, length-drop, length-take, drop-of-length-le}
 use lib.Seq.{drop-drop, take-nil, take-all}
-use lib.Dec.{eqb, ltb}
+use lib.Dec.{eqb}
 use borrow.Author.Tests.{eqb-true, eqb-false, eq-eqb, ne-eqb, le-ltb, lt-ltb, ltb-true}
 use Rattle.answers.specs.declared.Answer.the-variants.{Form}
 use Rattle.words.specs.Words.{if_then_else_, _<?_}
-use Rattle.lines.specs.Lines.{bytes, Cursor, Read, got, refused, lineLength, begins, sameBytes, number, numberFrom, valueIn, field}
+use Rattle.lines.specs.Lines.{bytes, got, refused, lineLength, begins, sameBytes, number, numberFrom, valueIn, field}
 use Rattle.lines.specs.Reading.{lineAfter, valueAt, numberRead, numberThen, numberAt, standing}
-use Rattle.lines.specs.declared.reading.ValueAt.{ValueAt}
 use Rattle.lines.specs.declared.reading.ValueAt.the-variants.{At, Refused}
 use Rattle.lines.specs.declared.reading.Number.{Number}
-use Rattle.lines.specs.declared.reading.Number.the-variants.{Is, Not}
-use Rattle.lines.specs.declared.reading.NumberAt.{NumberAt}
 use Rattle.lines.specs.declared.reading.NumberAt.the-variants.{Got, Bad}
 
 differ : false ≡ true → ⊥
-differ e = let z : _≡_ {A = ℕ} 0 1 = ap (λ (b : Bool). if b then 1 else 0) e in omega arith
+differ e = let z : _≡_ {A = ℕ} 0 1 = cc in omega arith
 
 and-right : (a b : Bool) → a && b ≡ true → b ≡ true
 and-right true b h = h
@@ -165,7 +162,8 @@ module _ {A : Type 0} (meaning : List ℕ → Option A) (t : List ℕ) (at : ℕ
       n = lineLength (drop at t)
 
       inner : (b d : Bool) → At start len next ≡ (if b && d then At (at + length key) (n - length key) (lineAfter t at) else Refused)
-          → ((if b && d then meaning (drop (length key) (take n (drop at t))) else none) ≡ meaning (take len (drop start t))) × (next ≡ lineAfter t at)
+          → ((if b && d then meaning (drop (length key) (take n (drop at t))) else none) ≡ meaning (take len (drop start t)))
+          × (next ≡ lineAfter t at)
       inner true true e =
           let x : start ≡ at + length key = cc in
           let y : len ≡ n - length key = cc in
@@ -222,7 +220,8 @@ module _ {A : Type 0} (meaning : List ℕ → Option A) (key : String) (t : List
   value-within v e = inner (lineLength (drop at t) <? length (drop at t)) (begins (bytes key) (take (lineLength (drop at t)) (drop at t))) refl e
     where
       inner : (b d : Bool) → (lineLength (drop at t) <? length (drop at t)) ≡ b
-          → (if b && d then meaning (drop (length (bytes key)) (take (lineLength (drop at t)) (drop at t))) else none) ≡ some v → lineAfter t at ≤ length t
+          → (if b && d then meaning (drop (length (bytes key)) (take (lineLength (drop at t)) (drop at t))) else none) ≡ some v
+          → lineAfter t at ≤ length t
       inner true d p e = omega (arith, simp length-drop at (ltb-true (lineLength (drop at t)) (length (drop at t)) p))
       inner false d p e = absurd (let z : _≡_ {A = ℕ} 0 1 = cc in omega arith)
 

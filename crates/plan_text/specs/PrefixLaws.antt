@@ -1,35 +1,36 @@
 -- Laws of the plan at the start of a text: each return of the code by its law, and that the rest of the text begins at the place it says.
-use Prim.Native.Nat.{ℕ, suc, _+_, _-_, _*_, _≤_, _<_}
+use Prim.Native.Nat.{ℕ, _+_, _-_, _*_, _≤_, _<_}
 use native.Mathlib.Omega.{arith}
 use mathlib.Core.Path.{_≡_, refl, sym, ap, _∙_}
 use mathlib.Core.Bool.{Bool, true, false, _&&_}
 use mathlib.Core.List.{List}
 use lib.ListN.{length, drop, length-drop}
 use borrow.Author.Tests.{leb-true, eq-eqb, ne-eqb}
-use Rattle.words.specs.Words.{if_then_else_, _≤?_, _=?_, filled}
+use Rattle.words.specs.Words.{_≤?_, _=?_, filled}
 use Rattle.answers.specs.declared.Answer.{Answer}
 use Rattle.answers.specs.declared.Answer.the-variants.{Accepted, Form, SlotLimit, JobLimit}
 use Rattle.answers.specs.Answer.{accepted, _unless_}
 use Rattle.plan.specs.declared.Job.{Job}
 use Rattle.plan.specs.declared.Plan.{Plan}
 use Rattle.plan.specs.Limits.{maxSlots, maxJobs, oneTo}
-use Rattle.plan.specs.Plan.{blankJob, blankPlan}
+use Rattle.plan.specs.Plan.{blankJob}
 use Rattle.lines.specs.declared.reading.NumberAt.the-variants.{Got, Bad}
-use Rattle.lines.specs.Lines.{bytes, number, Cursor, Read, got, refused, Reader, give, onward, must, many, field, nothingAfter}
+use Rattle.lines.specs.Lines.{bytes, number, Read, got, refused, Reader, give, onward, must, many, field, nothingAfter}
 use Rattle.lines.specs.Reading.{numberAt, standing, filledRead, arrayRead, ArrayHere}
 use Rattle.lines.specs.ReadingLaws.{number-got, number-bad}
 use Rattle.lines.specs.ManyLaws.{onward-filled}
 use Rattle.lines.specs.ForwardLaws.{end-self, end-place, Forward, GoesForward, onward-forward, must-forward, many-forward, field-forward}
-use Rattle.plan_text.specs.Read.{levelIn, nextJob, nextPlan, startOf, onlyPlan, planRead, readPlan}
+use Rattle.plan_text.specs.Read.{levelIn, nextJob, nextPlan, startOf, onlyPlan, readPlan}
 use Rattle.plan_text.specs.Reader.{nextLines, refusedPrefix, refusedRead, prefixOf, planPrefix}
-use Rattle.plan_text.specs.declared.PlanRead.{PlanRead}
 use Rattle.plan_text.specs.declared.reader.PlanPrefix.{PlanPrefix}
 
 -- ---- the lines of the jobs and of the slots
 
 -- what is read after the jobs, and after the slots
 abbrev after-jobs : ℕ → ℕ → List Job → Reader Plan
-after-jobs slots jobs job = λ here. onward (many slots (field number "slot=") here) (λ table. give (record { slots = slots; jobs = jobs; job = job; table = filled maxSlots 0 table }))
+after-jobs slots jobs job =
+    λ here. onward (many slots (field number "slot=") here)
+    (λ table. give (record { slots = slots; jobs = jobs; job = job; table = filled maxSlots 0 table }))
 
 abbrev after-slots : ℕ → ℕ → List Job → List ℕ → Reader Plan
 after-slots slots jobs job table = give (record { slots = slots; jobs = jobs; job = job; table = table })
@@ -38,24 +39,30 @@ module _ (t : List ℕ) (at slots jobs : ℕ) (answer : Answer) (job : List Job)
     (jobs-here : ArrayHere t (3 + 5 * jobs) answer job next (filledRead maxJobs blankJob (many jobs nextJob (standing t at 3)))) where
   lines-are : nextLines slots jobs (standing t at 3) ≡ onward (arrayRead t (3 + 5 * jobs) answer job next) (after-jobs slots jobs)
   unfolding nextLines
-  lines-are = onward-filled maxJobs blankJob (many jobs nextJob (standing t at 3)) (after-jobs slots jobs) ∙ ap (λ r. onward r (after-jobs slots jobs)) (sym (jobs-here .read))
+  lines-are =
+      onward-filled maxJobs blankJob (many jobs nextJob (standing t at 3)) (after-jobs slots jobs)
+      ∙ ap (λ r. onward r (after-jobs slots jobs)) (sym (jobs-here .read))
 
   pub lines-no-jobs : accepted answer ≡ false → refusedPrefix answer ≡ prefixOf t (nextLines slots jobs (standing t at 3))
   lines-no-jobs e = rw (lines-are, e)
 
   module _ (jobs-read : accepted answer ≡ true) (answer′ : Answer) (table : List ℕ) (next′ : ℕ)
-      (slots-here : ArrayHere t (3 + 5 * jobs + slots) answer′ table next′ (filledRead maxSlots 0 (many slots (field number "slot=") (standing t next (3 + 5 * jobs))))) where
-    slots-are : nextLines slots jobs (standing t at 3) ≡ onward (arrayRead t (3 + 5 * jobs + slots) answer′ table next′) (after-slots slots jobs job)
+      (slots-here : ArrayHere t (3 + 5 * jobs + slots) answer′ table next′
+      (filledRead maxSlots 0 (many slots (field number "slot=") (standing t next (3 + 5 * jobs))))) where
+    slots-are : nextLines slots jobs (standing t at 3)
+        ≡ onward (arrayRead t (3 + 5 * jobs + slots) answer′ table next′) (after-slots slots jobs job)
     slots-are =
         lines-are
         ∙ rw jobs-read
-        (onward-filled maxSlots 0 (many slots (field number "slot=") (standing t next (3 + 5 * jobs))) (after-slots slots jobs job) ∙ ap (λ r. onward r (after-slots slots jobs job)) (sym (slots-here .read)))
+        (onward-filled maxSlots 0 (many slots (field number "slot=") (standing t next (3 + 5 * jobs))) (after-slots slots jobs job)
+        ∙ ap (λ r. onward r (after-slots slots jobs job)) (sym (slots-here .read)))
 
     pub lines-no-slots : accepted answer′ ≡ false → refusedPrefix answer′ ≡ prefixOf t (nextLines slots jobs (standing t at 3))
     lines-no-slots e = rw (slots-are, e)
 
     pub lines-read : accepted answer′ ≡ true
-        → record { answer = Accepted; plan = record { slots = slots; jobs = jobs; job = job; table = table }; next = next′; line = 3 + 5 * jobs + slots } ≡ prefixOf t (nextLines slots jobs (standing t at 3))
+        → record { answer = Accepted; plan = record { slots = slots; jobs = jobs; job = job; table = table }; next = next′; line = 3 + 5 * jobs + slots }
+        ≡ prefixOf t (nextLines slots jobs (standing t at 3))
     lines-read e =
         let n : length t - length (drop next′ t) ≡ next′ = omega (arith, length-drop next′ t, slots-here .within) in
         rw (slots-are, e, n)
@@ -63,58 +70,71 @@ module _ (t : List ℕ) (at slots jobs : ℕ) (answer : Answer) (job : List Job)
 -- ---- the first two lines
 
 -- a number that was not refused keeps its limit
-pub keeps-limit : (limit n : ℕ) (refusal answer : Answer) → answer ≡ (refusal unless oneTo limit n) → accepted refusal ≡ false → accepted answer ≡ true → n ≤ limit
+pub keeps-limit : (limit n : ℕ) (refusal answer : Answer)
+    → answer ≡ (refusal unless oneTo limit n) → accepted refusal ≡ false → accepted answer ≡ true → n ≤ limit
 keeps-limit limit n refusal answer e refuses accepts = judged (1 ≤? n) (n ≤? limit) refl e
   where
     refuted : answer ≡ refusal → ⊥
-    refuted p = let z : _≡_ {A = ℕ} 0 1 = ap (λ (b : Bool). if b then 1 else 0) (sym refuses ∙ ap accepted (sym p) ∙ accepts) in omega arith
+    refuted p = let z : _≡_ {A = ℕ} 0 1 = cc in omega arith
 
     judged : (a b : Bool) → (n ≤? limit) ≡ b → answer ≡ (refusal unless (a && b)) → n ≤ limit
     judged a true p q = leb-true n limit p
     judged true false p q = absurd (refuted q)
     judged false false p q = absurd (refuted q)
 
+-- line 1 was read and N is within its limit; line 2 was read and n is
+pub record LineOne (t : List ℕ) (slots next : ℕ) : Type 0 where
+  pub read : field number "slots=" (standing t 0 1) ≡ got slots (standing t next 2)
+  pub fits : accepted (SlotLimit unless oneTo maxSlots slots) ≡ true
+
+pub record LineTwo (t : List ℕ) (at jobs next : ℕ) : Type 0 where
+  pub read : field number "jobs=" (standing t at 2) ≡ got jobs (standing t next 3)
+  pub within : next ≤ length t
+  pub fits : accepted (JobLimit unless oneTo maxJobs jobs) ≡ true
+
 module _ (t : List ℕ) where
-  pub prefix-no-slots : Bad ≡ numberAt t 0 (bytes "slots=") → refusedPrefix (Form 1) ≡ planPrefix t
+  pub no-line-one : Bad ≡ numberAt t 0 (bytes "slots=") → refusedPrefix (Form 1) ≡ planPrefix t
   unfolding planPrefix nextPlan
-  prefix-no-slots e = rw (number-bad "slots=" t 0 1 0 e)
+  no-line-one e = rw (number-bad "slots=" t 0 1 0 e)
 
-  module _ (slots second : ℕ) (e1 : Got slots second ≡ numberAt t 0 (bytes "slots=")) (limit : Answer) (judged : limit ≡ (SlotLimit unless oneTo maxSlots slots)) where
-    one : field number "slots=" (standing t 0 1) ≡ got slots (standing t second 2)
-    one = number-got "slots=" t 0 1 2 refl slots second e1 .0
-
-    pub prefix-slot-limit : accepted limit ≡ false → refusedPrefix limit ≡ planPrefix t
+  module _ (slots second : ℕ) (e : Got slots second ≡ numberAt t 0 (bytes "slots="))
+      (limit : Answer) (judged : limit ≡ (SlotLimit unless oneTo maxSlots slots)) where
+    pub over-slot-limit : accepted limit ≡ false → refusedPrefix limit ≡ planPrefix t
     unfolding planPrefix nextPlan
-    prefix-slot-limit e = rw (one, ← judged, e)
+    over-slot-limit f = rw (number-got "slots=" t 0 1 2 refl slots second e .0, ← judged, f)
 
-    module _ (within : accepted limit ≡ true) where
-      pub slots-few : slots ≤ maxSlots
-      unfolding accepted
-      slots-few = keeps-limit maxSlots slots SlotLimit limit judged refl within
+    pub line-one : accepted limit ≡ true → LineOne t slots second
+    line-one f = record { read = number-got "slots=" t 0 1 2 refl slots second e .0; fits = rw judged at f }
 
-      pub prefix-no-jobs : Bad ≡ numberAt t second (bytes "jobs=") → refusedPrefix (Form 2) ≡ planPrefix t
+  module _ (slots second : ℕ) (one : LineOne t slots second) where
+    pub slots-few : slots ≤ maxSlots
+    unfolding accepted
+    slots-few = keeps-limit maxSlots slots SlotLimit _ refl refl (one .fits)
+
+    pub no-line-two : Bad ≡ numberAt t second (bytes "jobs=") → refusedPrefix (Form 2) ≡ planPrefix t
+    unfolding planPrefix nextPlan
+    no-line-two e = rw (one .read, one .fits, number-bad "jobs=" t second 2 0 e)
+
+    module _ (jobs third : ℕ) (e : Got jobs third ≡ numberAt t second (bytes "jobs="))
+        (limit : Answer) (judged : limit ≡ (JobLimit unless oneTo maxJobs jobs)) where
+      pub over-job-limit : accepted limit ≡ false → refusedPrefix limit ≡ planPrefix t
       unfolding planPrefix nextPlan
-      prefix-no-jobs e = rw (one, ← judged, within, number-bad "jobs=" t second 2 0 e)
+      over-job-limit f = rw (one .read, one .fits, number-got "jobs=" t second 2 3 refl jobs third e .0, ← judged, f)
 
-      module _ (jobs third : ℕ) (e2 : Got jobs third ≡ numberAt t second (bytes "jobs=")) (limit′ : Answer) (judged′ : limit′ ≡ (JobLimit unless oneTo maxJobs jobs)) where
-        two : field number "jobs=" (standing t second 2) ≡ got jobs (standing t third 3)
-        two = number-got "jobs=" t second 2 3 refl jobs third e2 .0
+    module _ (jobs third : ℕ) (two : LineTwo t second jobs third) where
+      pub lines-onward : prefixOf t (nextLines slots jobs (standing t third 3)) ≡ planPrefix t
+      unfolding planPrefix nextPlan nextLines
+      lines-onward = rw (one .read, one .fits, two .read, two .fits)
 
-        pub third-within : third ≤ length t
-        third-within = number-got "jobs=" t second 2 3 refl jobs third e2 .1
+pub line-two : (t : List ℕ) (second jobs third : ℕ) → Got jobs third ≡ numberAt t second (bytes "jobs=")
+    → (limit : Answer) → limit ≡ (JobLimit unless oneTo maxJobs jobs) → accepted limit ≡ true → LineTwo t second jobs third
+line-two t second jobs third e limit judged f =
+    let n = number-got "jobs=" t second 2 3 refl jobs third e in
+    record { read = n .0; within = n .1; fits = rw judged at f }
 
-        pub prefix-job-limit : accepted limit′ ≡ false → refusedPrefix limit′ ≡ planPrefix t
-        unfolding planPrefix nextPlan
-        prefix-job-limit e = rw (one, ← judged, within, two, ← judged′, e)
-
-        module _ (within′ : accepted limit′ ≡ true) where
-          pub jobs-few : jobs ≤ maxJobs
-          unfolding accepted
-          jobs-few = keeps-limit maxJobs jobs JobLimit limit′ judged′ refl within′
-
-          pub prefix-lines : prefixOf t (nextLines slots jobs (standing t third 3)) ≡ planPrefix t
-          unfolding planPrefix nextPlan nextLines
-          prefix-lines = rw (one, ← judged, within, two, ← judged′, within′)
+pub jobs-few : (t : List ℕ) (second jobs third : ℕ) → LineTwo t second jobs third → jobs ≤ maxJobs
+unfolding accepted
+jobs-few t second jobs third two = keeps-limit maxJobs jobs JobLimit _ refl refl (two .fits)
 
 -- ---- a plan's reader goes forward: the rest of the text begins at the place that is handed back
 
@@ -135,7 +155,8 @@ plan-forward here =
     (λ u b. onward-forward (b .text) (field number "jobs=" b) _ (field-forward number "jobs=" b)
     (λ jobs c. onward-forward (c .text) (must (JobLimit unless oneTo maxJobs jobs) c) _ (must-forward _ c)
     (λ v d. onward-forward (d .text) (many jobs nextJob d) _ (many-forward jobs nextJob job-forward d)
-    (λ job e. onward-forward (e .text) (many slots (field number "slot=") e) _ (many-forward slots (field number "slot=") (field-forward number "slot=") e) (λ table f. end-self (f .text)))))))
+    (λ job e. onward-forward (e .text) (many slots (field number "slot=") e) _ (many-forward slots (field number "slot=") (field-forward number "slot=") e)
+    (λ table f. end-self (f .text)))))))
 
 -- an accepted prefix: the plan was read, and the reader stands where it says
 pub prefix-stands : (t : List ℕ) (r : PlanPrefix) → r ≡ planPrefix t → accepted (r .answer) ≡ true
@@ -148,16 +169,19 @@ prefix-stands t r e accepts = read (nextPlan (startOf t)) (plan-forward (startOf
         let w = end-place f in
         rw p (ap (λ (s : List ℕ). got plan (record { lineNo = here .lineNo; text = s })) (w .1), omega arith)
     read (refused answer) f p =
-        absurd (let z : _≡_ {A = ℕ} 0 1 = ap (λ (b : Bool). if b then 1 else 0) (sym f ∙ ap (λ (x : PlanPrefix). accepted (x .answer)) (sym p) ∙ accepts) in omega arith)
+        let a : r .answer ≡ answer = ap (λ (x : PlanPrefix). x .answer) p in
+        absurd (let z : _≡_ {A = ℕ} 0 1 = cc in omega arith)
 
 -- a refused one: that is the answer
-pub prefix-refused : (t : List ℕ) (r : PlanPrefix) → r ≡ planPrefix t → accepted (r .answer) ≡ false → nextPlan (startOf t) ≡ refused (r .answer)
+pub prefix-refused : (t : List ℕ) (r : PlanPrefix) → r ≡ planPrefix t → accepted (r .answer) ≡ false
+    → nextPlan (startOf t) ≡ refused (r .answer)
 unfolding planPrefix accepted
 prefix-refused t r e refuses = read (nextPlan (startOf t)) e
   where
     read : (q : Read Plan) → r ≡ prefixOf t q → q ≡ refused (r .answer)
     read (got plan here) p =
-        absurd (let z : _≡_ {A = ℕ} 0 1 = ap (λ (b : Bool). if b then 0 else 1) (ap (λ (x : PlanPrefix). accepted (x .answer)) (sym p) ∙ refuses) in omega arith)
+        let a : accepted (r .answer) ≡ true = ap (λ (x : PlanPrefix). accepted (x .answer)) p in
+        absurd (let z : _≡_ {A = ℕ} 0 1 = cc in omega arith)
     read (refused answer) p = rw p
 
 -- ---- the plan and nothing after

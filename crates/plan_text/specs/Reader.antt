@@ -61,10 +61,14 @@ pub record JobHere (text : List ℕ) (at l : ℕ) (r : JobAt) : Type 0 where
 
 -- the answer is the next jobs of a reader at `at`, before line l, in an array
 abbrev pub JobsHere : List ℕ → ℕ → ℕ → ℕ → JobsRead → Type 0
-JobsHere text at l count r = ArrayHere text (l + 5 * count) (r .answer) (r .job) (r .next) (filledRead maxJobs blankJob (many count nextJob (standing text at l)))
+JobsHere text at l count r =
+    ArrayHere text (l + 5 * count) (r .answer) (r .job) (r .next)
+    (filledRead maxJobs blankJob (many count nextJob (standing text at l)))
 
 abbrev pub SlotsHere : List ℕ → ℕ → ℕ → ℕ → SlotsRead → Type 0
-SlotsHere text at l count r = ArrayHere text (l + count) (r .answer) (r .table) (r .next) (filledRead maxSlots 0 (many count (field number "slot=") (standing text at l)))
+SlotsHere text at l count r =
+    ArrayHere text (l + count) (r .answer) (r .table) (r .next)
+    (filledRead maxSlots 0 (many count (field number "slot=") (standing text at l)))
 
 -- ---- the plan at the start of a text
 

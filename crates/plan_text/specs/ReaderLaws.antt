@@ -2,8 +2,8 @@
 use Prim.Native.Nat.{ℕ, suc, _+_, _*_, _≤_}
 use native.Mathlib.Nat.{one-mul}
 use native.Mathlib.Omega.{arith}
-use mathlib.Core.Path.{_≡_, refl, sym, ap, _∙_}
-use mathlib.Core.Bool.{Bool, true, false}
+use mathlib.Core.Path.{_≡_, refl, sym, ap}
+use mathlib.Core.Bool.{true, false}
 use mathlib.Core.List.{List}
 use mathlib.Core.Option.{Option, none, some}
 use lib.ListN.{length, take, drop}
@@ -14,16 +14,14 @@ use Rattle.plan.specs.declared.Level.{Level}
 use Rattle.plan.specs.declared.Level.the-variants.{Lo, Hi}
 use Rattle.plan.specs.declared.Job.{Job}
 use Rattle.lines.specs.declared.reading.ValueAt.the-variants.{At, Refused}
-use Rattle.lines.specs.declared.reading.NumberAt.{NumberAt}
 use Rattle.lines.specs.declared.reading.NumberAt.the-variants.{Got, Bad}
 use Rattle.lines.specs.Lines.{bytes, sameBytes, number, Read, got, refused, valueIn, field}
 use Rattle.lines.specs.Reading.{lineAfter, valueAt, numberAt, standing, ArrayHere}
-use Rattle.lines.specs.ReadingLaws.{value-there, value-none, field-got, field-refused, value-within, number-got, number-bad}
+use Rattle.lines.specs.ReadingLaws.{value-there, value-none, field-got, field-refused, number-got, number-bad}
 use Rattle.plan_text.specs.Read.{levelIn, nextJob}
-use Rattle.plan_text.specs.Reader.{levelRead, levelThen, levelAt, jobRead, jobNext, JobHere}
+use Rattle.plan_text.specs.Reader.{levelRead, levelThen, levelAt, JobHere}
 use Rattle.plan_text.specs.declared.reader.LevelName.{LevelName}
 use Rattle.plan_text.specs.declared.reader.LevelName.the-variants.{Is, Not}
-use Rattle.plan_text.specs.declared.reader.LevelAt.{LevelAt}
 use Rattle.plan_text.specs.declared.reader.LevelAt.the-variants as LevelAt
 use Rattle.plan_text.specs.declared.reader.JobAt.{JobAt}
 use Rattle.plan_text.specs.declared.reader.JobAt.the-variants as JobAt
@@ -55,7 +53,8 @@ module _ (t : List ℕ) (at : ℕ) where
   unfolding levelAt
   level-refused e = rw (value-none levelIn t at (bytes "level=") e)
 
-  level-some : (o : Option Level) (v : Level) (next after : ℕ) → LevelAt.Got v next ≡ levelThen after (levelRead o) → (o ≡ some v) × (next ≡ after)
+  level-some : (o : Option Level) (v : Level) (next after : ℕ)
+      → LevelAt.Got v next ≡ levelThen after (levelRead o) → (o ≡ some v) × (next ≡ after)
   level-some (some k) v next after e = let p : k ≡ v = cc in let q : next ≡ after = cc in (ap some p, q)
   level-some none v next after e = absurd (let z : _≡_ {A = ℕ} 0 1 = cc in omega arith)
 
@@ -131,7 +130,8 @@ unfolding accepted
 form-refuses m = refl
 
 module _ (t : List ℕ) (at l : ℕ) (r : JobAt) (here : JobHere t at l r) where
-  pub job-is : (j : Job) (after : ℕ) → r ≡ JobAt.Got j after → (after ≤ length t) × (nextJob (standing t at l) ≡ got j (standing t after (l + 5)))
+  pub job-is : (j : Job) (after : ℕ) → r ≡ JobAt.Got j after
+      → (after ≤ length t) × (nextJob (standing t at l) ≡ got j (standing t after (l + 5)))
   job-is j after e = let there : JobHere t at l (JobAt.Got j after) = rw e at here in (there .within, sym (there .read))
 
   pub job-is-not : (m : ℕ) → r ≡ JobAt.Bad m → nextJob (standing t at l) ≡ refused (Form m)

@@ -38,7 +38,8 @@ sub-t6 c =
     let b = c .before in
     let l = b .before .before .before in
     let a = l .before .before .before .args in
-    key-fits (a .text .now) (a .at) (a .key .now) _ (l .line-end .ensures) (b .before .before .if1 .left) (sym (b .begins-with .ensures) ∙ not-false _ (c .if2 .left))
+    key-fits (a .text .now) (a .at) (a .key .now) _ (l .line-end .ensures) (b .before .before .if1 .left)
+    (sym (b .begins-with .ensures) ∙ not-false _ (c .if2 .left))
 
 add-t12 : tie.Need-add-t12
 add-t12 c = search needs

@@ -30,13 +30,15 @@ returns : tie.Need-returns
 returns c =
     let n = c .before .before .before in
     let s = n .before .before .before in
-    number-there _ _ _ _ _ _ _ _ (sym (s .start .given .1) ∙ s .before .before .find-value .ensures) (n .before .value .ensures) (sym (c .before .number .given .1) ∙ n .read-number .ensures)
+    number-there _ _ _ _ _ _ _ _ (sym (s .start .given .1) ∙ s .before .before .find-value .ensures)
+    (n .before .value .ensures) (sym (c .before .number .given .1) ∙ n .read-number .ensures)
 
 returns-2 : tie.Need-returns-2
 returns-2 c =
     let n = c .before .before in
     let s = n .before .before .before in
-    number-there _ _ _ _ _ _ _ _ (sym (s .start .given .1) ∙ s .before .before .find-value .ensures) (n .before .value .ensures) (sym (c .enum-told .given .1) ∙ n .read-number .ensures)
+    number-there _ _ _ _ _ _ _ _ (sym (s .start .given .1) ∙ s .before .before .find-value .ensures)
+    (n .before .value .ensures) (sym (c .enum-told .given .1) ∙ n .read-number .ensures)
 
 returns-3 : tie.Need-returns-3
 returns-3 c = number-refused _ _ _ (sym (c .enum-told2 .given .1) ∙ c .before .before .find-value .ensures)

@@ -4,17 +4,45 @@ use borrow.Author.Tests.{not-true, not-false}
 use Rattle.lines.specs.declared.reading.NumberAt.the-variants.{Got}
 use Rattle.lines.specs.Lines.{bytes}
 use Rattle.lines.specs.Reading.{numberAt}
-use Rattle.plan_text.specs.PrefixLaws.{prefix-no-slots, prefix-slot-limit, slots-few, prefix-no-jobs, third-within, prefix-job-limit, jobs-few, prefix-lines}
+use Rattle.plan_text.specs.PrefixLaws.{LineOne, LineTwo, no-line-one, over-slot-limit, line-one, slots-few, no-line-two, over-job-limit, line-two, jobs-few, lines-onward}
 use borrow.Author.Needs.{needs}
 use Rattle.plan_text.proofs.reader.plan_prefix.Statement.{statement}
 use Rattle.plan_text.proofs.reader.plan_prefix.Tie as tie
 
--- what each of the two lines that was read says
-got-slots : (c : tie.After-known-told) → Got (c .before .slots .given .0 .0) (c .before .slots .given .0 .1 .0) ≡ numberAt (c .before .before .before .before .before .args .text .now) 0 (bytes "slots=")
+-- the places where the two lines were read and are within their limits
+abbrev start : tie.After-known-told → tie.Start
+start c = c .before .before .before .before .before
+
+abbrev first : tie.Else1 → tie.After-known-told
+first c = c .before .before .before
+
+abbrev back : tie.After-known-told2 → tie.Else1
+back c = c .before .before .before .before
+
+abbrev second : tie.Else2 → tie.After-known-told2
+second c = c .before .before .before
+
+-- what each line that was read says
+got-slots : (c : tie.After-known-told)
+    → Got (c .before .slots .given .0 .0) (c .before .slots .given .0 .1 .0) ≡ numberAt (start c .args .text .now) 0 (bytes "slots=")
 got-slots c = sym (c .before .slots .given .1) ∙ c .before .before .before .slots-field .ensures
 
-got-jobs : (c : tie.After-known-told2) → Got (c .before .jobs .given .0 .0) (c .before .jobs .given .0 .1 .0) ≡ numberAt (c .before .before .before .before .before .before .before .before .before .before .before .before .args .text .now) (c .before .before .before .before .before .before .before .before .slots .given .0 .1 .0) (bytes "jobs=")
+got-jobs : (c : tie.After-known-told2)
+    → Got (c .before .jobs .given .0 .0) (c .before .jobs .given .0 .1 .0)
+    ≡ numberAt (start (first (back c)) .args .text .now) (first (back c) .before .slots .given .0 .1 .0) (bytes "jobs=")
 got-jobs c = sym (c .before .jobs .given .1) ∙ c .before .before .before .jobs-field .ensures
+
+one : (c : tie.Else1) → LineOne (start (first c) .args .text .now) (first c .before .slots .given .0 .0) (first c .before .slots .given .0 .1 .0)
+one c =
+    line-one _ _ _ (got-slots (first c)) _ (c .before .before .slot-limit .ensures)
+    (sym (c .before .is-accepted .ensures) ∙ not-false _ (c .if1 .left))
+
+two : (c : tie.Else2)
+    → LineTwo (start (first (back (second c))) .args .text .now) (first (back (second c)) .before .slots .given .0 .1 .0)
+    (second c .before .jobs .given .0 .0) (second c .before .jobs .given .0 .1 .0)
+two c =
+    line-two _ _ _ _ (got-jobs (second c)) _ (c .before .before .job-limit .ensures)
+    (sym (c .before .is-accepted2 .ensures) ∙ not-false _ (c .if2 .left))
 
 slots-field-requires : tie.Need-slots-field-requires
 slots-field-requires c κs = search needs
@@ -31,7 +59,7 @@ refused-requires c κs = search needs
 returns : tie.Need-returns
 returns c =
     c .refused .ensures
-    ∙ prefix-no-slots _ (sym (c .before .enum-told .given .1) ∙ c .before .before .before .slots-field .ensures)
+    ∙ no-line-one _ (sym (c .before .enum-told .given .1) ∙ c .before .before .before .slots-field .ensures)
 
 slot-limit-requires : tie.Need-slot-limit-requires
 slot-limit-requires c κs = search needs
@@ -45,10 +73,9 @@ refused-requires-2 c κs = search needs
 returns-2 : tie.Need-returns-2
 returns-2 c =
     let a = c .before .before in
-    let l = a .before in
-    let k = l .before in
     c .refused2 .ensures
-    ∙ prefix-slot-limit _ _ _ (got-slots k) _ (l .slot-limit .ensures) (sym (a .is-accepted .ensures) ∙ not-true _ (c .before .if1 .taken))
+    ∙ over-slot-limit _ _ _ (got-slots (a .before .before)) _ (a .before .slot-limit .ensures)
+    (sym (a .is-accepted .ensures) ∙ not-true _ (c .before .if1 .taken))
 
 jobs-field-requires : tie.Need-jobs-field-requires
 jobs-field-requires c κs = search needs
@@ -65,12 +92,8 @@ refused-requires-3 c κs = search needs
 returns-3 : tie.Need-returns-3
 returns-3 c =
     let f = c .before .before .before in
-    let a = f .before .before in
-    let l = a .before in
-    let k = l .before in
     c .refused3 .ensures
-    ∙ prefix-no-jobs _ _ _ (got-slots k) _ (l .slot-limit .ensures) (sym (a .is-accepted .ensures) ∙ not-false _ (f .before .if1 .left))
-    (sym (c .before .enum-told2 .given .1) ∙ f .jobs-field .ensures)
+    ∙ no-line-two _ _ _ (one (f .before)) (sym (c .before .enum-told2 .given .1) ∙ f .jobs-field .ensures)
 
 job-limit-requires : tie.Need-job-limit-requires
 job-limit-requires c κs = search needs
@@ -83,48 +106,19 @@ refused-requires-4 c κs = search needs
 
 returns-4 : tie.Need-returns-4
 returns-4 c =
-    let a′ = c .before .before in
-    let l′ = a′ .before in
-    let k′ = l′ .before in
-    let f = k′ .before .before .before in
-    let a = f .before .before in
-    let l = a .before in
-    let k = l .before in
+    let a = c .before .before in
+    let k = a .before .before in
     c .refused4 .ensures
-    ∙ prefix-job-limit _ _ _ (got-slots k) _ (l .slot-limit .ensures) (sym (a .is-accepted .ensures) ∙ not-false _ (f .before .if1 .left))
-    _ _ (got-jobs k′) _ (l′ .job-limit .ensures) (sym (a′ .is-accepted2 .ensures) ∙ not-true _ (c .before .if2 .taken))
+    ∙ over-job-limit _ _ _ (one (back k)) _ _ (got-jobs k) _ (a .before .job-limit .ensures)
+    (sym (a .is-accepted2 .ensures) ∙ not-true _ (c .before .if2 .taken))
 
 read-lines-requires : tie.Need-read-lines-requires
 read-lines-requires c κs =
-    let a′ = c .before in
-    let l′ = a′ .before in
-    let k′ = l′ .before in
-    let f = k′ .before .before .before in
-    let a = f .before .before in
-    let l = a .before in
-    let k = l .before in
-    let t = k .before .before .before .before .before .args .text .now in
-    let yes1 = sym (a .is-accepted .ensures) ∙ not-false _ (f .before .if1 .left) in
-    let yes2 = sym (a′ .is-accepted2 .ensures) ∙ not-false _ (c .if2 .left) in (
-      slots-few t _ _ (got-slots k) _ (l .slot-limit .ensures) yes1,
-      (
-        jobs-few t _ _ (got-slots k) _ (l .slot-limit .ensures) yes1 _ _ (got-jobs k′) _ (l′ .job-limit .ensures) yes2,
-        third-within t _ _ (got-slots k) _ (l .slot-limit .ensures) yes1 _ _ (got-jobs k′) _ (l′ .job-limit .ensures),
-      ),
-    )
+    (slots-few _ _ _ (one (back (second c))), (jobs-few _ _ _ _ (two c), two c .within))
 
 returns-5 : tie.Need-returns-5
 returns-5 c =
-    let a′ = c .before .before in
-    let l′ = a′ .before in
-    let k′ = l′ .before in
-    let f = k′ .before .before .before in
-    let a = f .before .before in
-    let l = a .before in
-    let k = l .before in
-    c .read-lines .ensures
-    ∙ prefix-lines _ _ _ (got-slots k) _ (l .slot-limit .ensures) (sym (a .is-accepted .ensures) ∙ not-false _ (f .before .if1 .left))
-    _ _ (got-jobs k′) _ (l′ .job-limit .ensures) (sym (a′ .is-accepted2 .ensures) ∙ not-false _ (c .before .if2 .left))
+    c .read-lines .ensures ∙ lines-onward _ _ _ (one (back (second (c .before)))) _ _ (two (c .before))
 
 pub plan-prefix-spec : {M : Type 1} → statement M
 plan-prefix-spec =

@@ -1,5 +1,4 @@
 -- `reader::read_jobs` meets its contract. The invariant: i jobs stand in the array, the rest is blank, five lines to each.
-use mathlib.Core.Path.{sym, _∙_}
 use Prim.Native.Nat.{_-_}
 use native.Mathlib.Omega.{arith}
 use borrow.Author.Needs.{needs}

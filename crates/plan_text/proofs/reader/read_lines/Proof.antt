@@ -21,7 +21,8 @@ returns c =
     let j = a .before .before in
     let s = j .before .before in
     c .refused .ensures
-    ∙ lines-no-jobs (s .args .text .now) (s .args .at) (s .args .slots) (s .args .jobs) _ _ _ (j .read-jobs .ensures) (sym (a .is-accepted .ensures) ∙ not-true _ (c .before .if1 .taken))
+    ∙ lines-no-jobs (s .args .text .now) (s .args .at) (s .args .slots) (s .args .jobs) _ _ _ (j .read-jobs .ensures)
+    (sym (a .is-accepted .ensures) ∙ not-true _ (c .before .if1 .taken))
 
 mul-line : tie.Need-mul-line
 mul-line c = search needs
@@ -46,7 +47,8 @@ returns-2 c =
     let j = a .before .before in
     let s = j .before .before in
     c .refused2 .ensures
-    ∙ lines-no-slots (s .args .text .now) (s .args .at) (s .args .slots) (s .args .jobs) _ _ _ (j .read-jobs .ensures) (sym (a .is-accepted .ensures) ∙ not-false _ (k .before .if1 .left))
+    ∙ lines-no-slots (s .args .text .now) (s .args .at) (s .args .slots) (s .args .jobs) _ _ _ (j .read-jobs .ensures)
+    (sym (a .is-accepted .ensures) ∙ not-false _ (k .before .if1 .left))
     _ _ _ (k .read-slots .ensures) (sym (b .is-accepted2 .ensures) ∙ not-true _ (c .before .if2 .taken))
 
 add-t15 : tie.Need-add-t15
@@ -59,7 +61,8 @@ returns-3 c =
     let a = k .before .before in
     let j = a .before .before in
     let s = j .before .before in
-    lines-read (s .args .text .now) (s .args .at) (s .args .slots) (s .args .jobs) _ _ _ (j .read-jobs .ensures) (sym (a .is-accepted .ensures) ∙ not-false _ (k .before .if1 .left))
+    lines-read (s .args .text .now) (s .args .at) (s .args .slots) (s .args .jobs) _ _ _ (j .read-jobs .ensures)
+    (sym (a .is-accepted .ensures) ∙ not-false _ (k .before .if1 .left))
     _ _ _ (k .read-slots .ensures) (sym (b .is-accepted2 .ensures) ∙ not-false _ (c .if2 .left))
 
 pub read-lines-spec : {M : Type 1} → statement M

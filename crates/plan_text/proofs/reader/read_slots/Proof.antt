@@ -12,7 +12,8 @@ use Rattle.plan_text.proofs.reader.read_slots.Statement.{statement}
 use Rattle.plan_text.proofs.reader.read_slots.Tie as tie
 
 abbrev Inv-loop : tie.InvT-loop
-Inv-loop text at count line table₀ next₀ l₀ t₀ table next l t = FillingAt (field number "slot=") 1 maxSlots 0 count text at line table next l t
+Inv-loop text at count line table₀ next₀ l₀ t₀ table next l t =
+    FillingAt (field number "slot=") 1 maxSlots 0 count text at line table next l t
 
 abbrev μ-loop : tie.MeasureT-loop
 μ-loop text at count line table₀ next₀ l₀ t₀ table next l t = count - t
@@ -58,7 +59,8 @@ loop-again c =
     let f = c .before .before .before in
     let l = f .before .before in
     let s = l .before .before in
-    let n = number-got "slot=" (s .args .text .now) _ (l .loop .l) (l .loop .l + 1) (omega arith) _ _ (sym (c .before .entry .given .1) ∙ f .slot-field .ensures) in
+    let e = sym (c .before .entry .given .1) ∙ f .slot-field .ensures in
+    let n = number-got "slot=" (s .args .text .now) _ (l .loop .l) (l .loop .l + 1) (omega arith) _ _ e in
     filling-at-on (field number "slot=") 1 maxSlots 0 _ _ _ _ (s .pre .0) _ _ _ _ (l .loop .inv) (f .before .loop-test .taken) _ _ (n .1) (n .0)
 
 returns-2 : tie.Need-returns-2 Inv-loop μ-loop
