@@ -4,3 +4,7 @@ pub mod Run
 pub mod PlanA
 pub mod Pieces
 pub mod Printed
+pub mod Reports
+pub mod Console
+pub mod LineLaws
+pub mod SessionLaws
