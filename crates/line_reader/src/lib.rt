@@ -108,7 +108,7 @@ pub fn number_field(text: &[u8], at: usize, key: &[u8]) -> NumberAt
 {
     match find_value(text, at, key) {
         ValueAt::At { start, len, next } => match read_number(part_from(text, start, len)) {
-            Number::Is(number) => NumberAt::Got { number, next },
+            Number::Is(number) => NumberAt::Got(number, next),
             Number::Not => NumberAt::Bad,
         },
         ValueAt::Refused => NumberAt::Bad,

@@ -70,8 +70,8 @@ fn level_in(s: &[u8]) -> LevelName
 fn level_field(text: &[u8], at: usize) -> LevelAt
     ensures { λ r. ⌜ r ≡ levelAt (now (text .entry)) at ⌝ }
 {
-    match lines::reading::find_value(text, at, b"level=") {
-        ValueAt::At { start, len, next } => match level_in(lines::reading::value(
+    match line_reader::find_value(text, at, b"level=") {
+        ValueAt::At { start, len, next } => match level_in(line_reader::part_from(
             text,
             start,
             len,
@@ -86,25 +86,25 @@ fn level_field(text: &[u8], at: usize) -> LevelAt
 fn release_field(text: &[u8], at: usize) -> NumberAt
     ensures { λ r. ⌜ r ≡ numberAt (now (text .entry)) at (bytes "release=") ⌝ }
 {
-    lines::reading::number_field(text, at, b"release=")
+    line_reader::number_field(text, at, b"release=")
 }
 
 fn deadline_field(text: &[u8], at: usize) -> NumberAt
     ensures { λ r. ⌜ r ≡ numberAt (now (text .entry)) at (bytes "deadline=") ⌝ }
 {
-    lines::reading::number_field(text, at, b"deadline=")
+    line_reader::number_field(text, at, b"deadline=")
 }
 
 fn lo_field(text: &[u8], at: usize) -> NumberAt
     ensures { λ r. ⌜ r ≡ numberAt (now (text .entry)) at (bytes "lo=") ⌝ }
 {
-    lines::reading::number_field(text, at, b"lo=")
+    line_reader::number_field(text, at, b"lo=")
 }
 
 fn hi_field(text: &[u8], at: usize) -> NumberAt
     ensures { λ r. ⌜ r ≡ numberAt (now (text .entry)) at (bytes "hi=") ⌝ }
 {
-    lines::reading::number_field(text, at, b"hi=")
+    line_reader::number_field(text, at, b"hi=")
 }
 
 // The job whose first line is at `at` and has the number `line`.
@@ -176,7 +176,7 @@ fn read_jobs(text: &[u8], at: usize, count: usize, line: u16) -> JobsRead
 fn slot_field(text: &[u8], at: usize) -> NumberAt
     ensures { λ r. ⌜ r ≡ numberAt (now (text .entry)) at (bytes "slot=") ⌝ }
 {
-    lines::reading::number_field(text, at, b"slot=")
+    line_reader::number_field(text, at, b"slot=")
 }
 
 // The slots, the first of whose lines is at `at` and has the number `line`.
@@ -258,13 +258,13 @@ fn read_lines(text: &[u8], at: usize, slots: u16, jobs: u16) -> PlanPrefix
 fn slots_field(text: &[u8]) -> NumberAt
     ensures { λ r. ⌜ r ≡ numberAt (now (text .entry)) 0 (bytes "slots=") ⌝ }
 {
-    lines::reading::number_field(text, 0, b"slots=")
+    line_reader::number_field(text, 0, b"slots=")
 }
 
 fn jobs_field(text: &[u8], at: usize) -> NumberAt
     ensures { λ r. ⌜ r ≡ numberAt (now (text .entry)) at (bytes "jobs=") ⌝ }
 {
-    lines::reading::number_field(text, at, b"jobs=")
+    line_reader::number_field(text, at, b"jobs=")
 }
 
 // The plan at the start of the text, whatever follows it.

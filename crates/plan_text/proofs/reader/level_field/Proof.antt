@@ -14,8 +14,8 @@ find-value-requires c κs = search needs
 enum-known-start : tie.Need-enum-known-start
 enum-known-start c = search needs
 
-value-requires : tie.Need-value-requires
-value-requires c κs = search needs
+part-from-requires : tie.Need-part-from-requires
+part-from-requires c κs = search needs
 
 level-in-requires : tie.Need-level-in-requires
 level-in-requires c κs = search needs
@@ -34,14 +34,14 @@ returns c =
     let n = c .before .before .before in
     let s = n .before .before .before in
     level-there _ _ _ _ _ _ _ (sym (s .start .given .1) ∙ s .before .before .find-value .ensures)
-    (n .before .value .ensures) (sym (c .before .level .given .1) ∙ n .level-in .ensures)
+    (n .before .part-from .ensures) (sym (c .before .level .given .1) ∙ n .level-in .ensures)
 
 returns-2 : tie.Need-returns-2
 returns-2 c =
     let n = c .before .before in
     let s = n .before .before .before in
     level-there _ _ _ _ _ _ _ (sym (s .start .given .1) ∙ s .before .before .find-value .ensures)
-    (n .before .value .ensures) (sym (c .enum-told .given .1) ∙ n .level-in .ensures)
+    (n .before .part-from .ensures) (sym (c .enum-told .given .1) ∙ n .level-in .ensures)
 
 returns-3 : tie.Need-returns-3
 returns-3 c = level-refused _ _ (sym (c .enum-told2 .given .1) ∙ c .before .before .find-value .ensures)
@@ -53,7 +53,7 @@ level-field-spec =
     slice-aggregate-find-value
     find-value-requires
     enum-known-start
-    value-requires
+    part-from-requires
     level-in-requires
     enum-known-level
     enum-told
