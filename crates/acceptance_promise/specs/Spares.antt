@@ -1,12 +1,13 @@
 -- The closed form of a spare (S1), as a statement: a least number over borders. Definitions only: SpareLaws proves it of the current spare.
 use Prim.Native.Nat.{ℕ, _+_, _≤_}
-use mathlib.Core.List.{List, map, List·Memᴰ}
+use mathlib.Core.List.{List, List·Memᴰ}
 use lib.IntN.{ℤ}
 use lib.ListN.{getD}
 use Rattle.words.specs.Difference.{Is}
 use Rattle.windows.specs.Windows.{dueBy}
 use Rattle.plan.specs.declared.Plan.{Plan}
 use Rattle.intervals.specs.declared.Interval.{Interval}
+use Rattle.intervals.specs.Covers.{ends}
 use Rattle.acceptance_promise.specs.Promise.{windowsOf}
 
 -- the work due by e, of a list of work
@@ -19,4 +20,4 @@ pub record Least (p : Plan) (ws : List ℕ) (a b : ℕ) (xs : List Interval) (z 
   pub is : Is z (reached + due p ws a) (a + due p ws reached)
   pub least : (e : ℕ) → b ≤ e → reached + due p ws e ≤ e + due p ws reached
   pub from : b ≤ reached
-  pub anEnd : List·Memᴰ reached (map (λ x. x .end) xs)
+  pub anEnd : List·Memᴰ reached (ends xs)

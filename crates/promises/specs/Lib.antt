@@ -10,7 +10,6 @@ pub mod ExactRun
 pub mod ExactRefused
 pub mod ExactAccepted
 pub mod Exact
-pub mod ExactShams
 pub mod Refused
 pub mod Texts
 pub mod EarliestLaws
