@@ -18,7 +18,8 @@ use Rattle.executive.specs.declared.Slot.{Slot}
 use Rattle.executive.specs.declared.Kind.{Kind}
 use Rattle.executive.specs.declared.Phase.{Phase}
 use Rattle.executive.specs.Run.{freshEntry}
-use Rattle.executive.specs.Step.{ranOn, reported, expiredEntry, expiredEntries, expired, pastLo, overrun, settled, everySettled, canReturn, phaseAfter}
+use Rattle.executive.specs.Step.{ranOn, reported, expiredEntry, expiredEntries, expired, pastLo, overrun, settled, everySettled, canReturn, phaseAfter, judged, refreshed, nextRun}
+use Rattle.executive.specs.Sound.{Listed, Countable}
 
 -- the same run with other entries
 abbrev pub withEntries : Run → List Entry → Run
@@ -91,3 +92,26 @@ module _ (r : Run) (slot : Slot) (b : Bool) where
 
   pub after-h : r .phase ≡ Phase.H → b ≡ canReturn r → (if b then Phase.T else Phase.H) ≡ phaseAfter (r .phase) r slot
   after-h p q = ap (λ (x : Bool). if x then Phase.T else Phase.H) q ∙ sym (ap (λ (h : Phase). phaseAfter h r slot) p)
+
+-- no part of a step touches the plan
+pub told-plan : (r told : Run) (slot : Slot) (kind : Kind) → told ≡ reported r slot kind → told .plan ≡ r .plan
+unfolding reported
+told-plan r told slot kind e = ap (λ (x : Run). x .plan) e
+
+pub left-plan : (r left : Run) → left ≡ expired r → left .plan ≡ r .plan
+unfolding expired
+left-plan r left e = ap (λ (x : Run). x .plan) e
+
+pub after-plan : (r after : Run) (slot : Slot) → after ≡ judged r slot → after .plan ≡ r .plan
+unfolding judged
+after-plan r after slot e = ap (λ (x : Run). x .plan) e
+
+-- the parts make the next run
+pub next-of : (r told left after : Run) (slot : Slot) (kind : Kind) → told ≡ reported r slot kind → left ≡ expired told → after ≡ judged left slot → (next : Run) → next ≡ refreshed after → next ≡ nextRun r slot kind
+unfolding nextRun
+next-of r told left after slot kind e e′ e″ next h = rw (h, e″, e′, e)
+
+-- a slot whose job can be counted on is one of the array
+pub countable-listed : (r : Run) (slot : Slot) → Countable r slot → Listed slot
+countable-listed r Slot.Idle h = tt
+countable-listed r (Slot.Job k) h = h .0

@@ -1,11 +1,14 @@
 -- Laws of two lists taken together element by element: how many, which at place i, and the rest from there.
-use Prim.Native.Nat.{ℕ, zero, suc, _≤_, _<_}
+use Prim.Native.Nat.{ℕ, zero, suc, _+_, _≤_, _<_}
 use native.Mathlib.Nat.{not-suc-le-zero, le-of-suc-le-suc}
+use native.Mathlib.Numerals.{add-one}
 use native.Mathlib.Omega.{arith}
+use mathlib.Core.Bool.{Bool, true, false}
 use mathlib.Core.Path.{_≡_, refl, ap, _∙_}
 use mathlib.Core.List.{List, [], _∷_, zipWith}
 use lib.ListN.{length, take, drop, getD, drop-of-length-le}
 use lib.Seq.{drop-cons, getD-take, length-take-le}
+use Rattle.words.specs.Words.{every}
 
 module _ {A B C : Type 0} (f : A → B → C) where
   zip-length : (xs : List A) (ys : List B) → length xs ≤ length ys → length (zipWith f xs ys) ≡ length xs
@@ -36,3 +39,17 @@ module _ {A B C : Type 0} (f : A → B → C) (xs : List A) (ys : List B) (n : �
 
   pub zipped-end : (i : ℕ) → n ≤ i → drop i (zipWith f (take n xs) ys) ≡ []
   zipped-end i l = let e = zipped-length in drop-of-length-le (zipWith f (take n xs) ys) {i = i} (omega arith)
+
+-- a test of every pair, from place i on
+module _ {A B : Type 0} (f : A → B → Bool) (xs : List A) (ys : List B) (n : ℕ) (h : n ≤ length xs) (k : n ≤ length ys) (i : ℕ) where
+  pub every-on : (x : A) (y : B) → i < n → f (getD xs i x) (getD ys i y) ≡ true → every (drop (i + 1) (zipWith f (take n xs) ys)) ≡ every (drop i (zipWith f (take n xs) ys))
+  unfolding every
+  every-on x y l p = rw (zipped-from f xs ys n h k i x y l, p, add-one i)
+
+  pub every-not : (x : A) (y : B) → i < n → f (getD xs i x) (getD ys i y) ≡ false → false ≡ every (drop i (zipWith f (take n xs) ys))
+  unfolding every
+  every-not x y l p = rw (zipped-from f xs ys n h k i x y l, p)
+
+  pub every-end : n ≤ i → true ≡ every (drop i (zipWith f (take n xs) ys))
+  unfolding every
+  every-end l = rw (zipped-end f xs ys n h k i l)

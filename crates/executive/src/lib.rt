@@ -1,10 +1,18 @@
 // The run of an accepted plan, slot by slot: start, coherence, choice, report, expiry, phase. Texts and programs are above.
 ghost use mathlib.Core.Path.{_≡_};
+ghost use Rattle.intervals.specs.Layout.{layoutOf};
 ghost use Rattle.executive.specs.Run.{blankRun};
+ghost use Rattle.executive.specs.Coherent.{coherent};
+ghost use Rattle.executive.specs.Choice.{canGoOn, choose};
+ghost use Rattle.executive.specs.Step.{nextRun, step};
+ghost use Rattle.executive.specs.Sound.{Sound, Countable};
 use answers::Answer;
+use entries::kind_fits;
+use intervals::Layout;
 use plan::Plan;
 
 mod choosing;
+mod coherence;
 mod entries;
 mod ready;
 mod stepping;
@@ -92,5 +100,100 @@ pub fn blank_run() -> Run
         hi: hi,
         lo: lo,
         job: job,
+    }
+}
+
+impl Run {
+    // Every clause of coherence holds of the record.
+    pub fn coherent(self) -> bool
+        ensures { λ r. ⌜ r ≡ coherent self ⌝ }
+    {
+        let p = self.plan;
+        let layout = intervals::layout_of(p);
+        self.coherent_in(layout)
+    }
+
+    // 10, then 11; `layout` is that of the run's plan.
+    fn can_go_on(self, layout: Layout) -> Answer
+        requires { ⌜ layout ≡ layoutOf (self .plan) ⌝ }
+        ensures { λ r. ⌜ r ≡ canGoOn self ⌝ }
+    {
+        if !self.coherent_in(layout) {
+            return Answer::Incoherent;
+        }
+        if self.t < self.plan.slots {
+            return Answer::Accepted;
+        }
+        Answer::Over(self.t)
+    }
+
+    // What slot t is given to and how many jobs are ready; refused, idle with 0 ready.
+    pub fn choose(self) -> Choice
+        ensures { λ r. ⌜ r ≡ choose self ⌝ }
+    {
+        let p = self.plan;
+        let layout = intervals::layout_of(p);
+        let answer = self.can_go_on(layout);
+        if !answers::is_accepted(answer) {
+            return Choice {
+                answer: answer,
+                slot: Slot::Idle,
+                ready: 0,
+            };
+        }
+        let place = intervals::past_of(layout, self.t);
+        let slot = self.chosen(place);
+        let set = self.ready_set(false);
+        Choice {
+            answer: Answer::Accepted,
+            slot: slot,
+            ready: u32::count_ones(set),
+        }
+    }
+
+    // The run after an accepted report: the report, expiry, the phase, then both rows.
+    fn next_run(self, layout: Layout, slot: Slot, kind: Kind) -> Run
+        requires { ⌜ Sound self × Countable self slot × (layout ≡ layoutOf (self .plan)) ⌝ }
+        ensures { λ r. ⌜ r ≡ nextRun self slot kind ⌝ }
+    {
+        let told = self.reported(slot, kind);
+        let left = told.expired();
+        let judged = left.judged(slot);
+        judged.refreshed(layout)
+    }
+
+    // One report: the next run with the answer, or a refusal with the same run. The layout is worked out once.
+    pub fn step(self, report: Report) -> Stepped
+        ensures { λ r. ⌜ r ≡ step self report ⌝ }
+    {
+        let p = self.plan;
+        let layout = intervals::layout_of(p);
+        let answer = self.can_go_on(layout);
+        if !answers::is_accepted(answer) {
+            return Stepped {
+                answer: answer,
+                run: self,
+            };
+        }
+        if report.slot != self.t {
+            return Stepped {
+                answer: Answer::OtherSlot(self.t),
+                run: self,
+            };
+        }
+        let place = intervals::past_of(layout, self.t);
+        let slot = self.chosen(place);
+        let kind = report.kind;
+        if !kind_fits(slot, kind) {
+            return Stepped {
+                answer: Answer::WrongKind(self.t),
+                run: self,
+            };
+        }
+        let next = self.next_run(layout, slot, kind);
+        Stepped {
+            answer: Answer::Accepted,
+            run: next,
+        }
     }
 }

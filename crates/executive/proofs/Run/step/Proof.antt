@@ -1,0 +1,95 @@
+-- `step` meets its contract: the refusals in their order hand back the same run, an accepted report the next run.
+use mathlib.Core.Bool.{true}
+use mathlib.Core.Path.{_≡_, sym, ap, _∙_}
+use Prim.Native.Nat.{_<_}
+use Rattle.words.specs.ListLaws.{long}
+use Rattle.intervals.specs.declared.Layout.{Layout}
+use Rattle.intervals.specs.Intervals.{intervals, past}
+use Rattle.intervals.specs.Layout.{pastIn}
+use Rattle.intervals.specs.LayoutLaws.{past-of-layout}
+use Rattle.executive.specs.Coherent.{coherent}
+use Rattle.executive.specs.Sound.{Sound}
+use borrow.Author.Tests.{not-true, not-false, eq-eqb, ne-eqb}
+use Rattle.executive.specs.Sound.{Countable}
+use Rattle.executive.specs.Choice.{chosen}
+use Rattle.executive.specs.CoherentLaws.{sound, chosen-countable}
+use Rattle.executive.specs.CallLaws.{went-on, step-refused, other-refused, kind-refused, stepped}
+use borrow.Author.Needs.{needs}
+use Rattle.executive.proofs.Run.step.Statement.{statement}
+use Rattle.executive.proofs.Run.step.Tie as tie
+
+-- an accepted call has a coherent run before its last border
+went : (c : tie.Else1) → let r = c .before .before .before .before .before .args .self in (coherent r ≡ true) × (r .t < r .plan .slots)
+went c = went-on _ _ _ (c .before .before .can-go-on .ensures) (c .before .is-accepted .ensures) (not-false _ (c .if1 .left))
+
+sound-run : (c : tie.Else1) → Sound (c .before .before .before .before .before .args .self)
+sound-run c = sound _ (went c .0) (went c .1) (search (needs, long)) (search needs) (search (needs, long))
+
+countable : (c : tie.Else1) → let r = c .before .before .before .before .before .args .self in Countable r (chosen r)
+countable c = chosen-countable _ (went c .0) (went c .1) (search (needs, long)) (search needs) (search (needs, long))
+
+place : (c : tie.After-past-of) → let r = c .before .before .before .before .before .before .before .before .before .args .self in c .past-of .result ≡ past (r .t) (intervals (r .plan))
+place c =
+    let l = c .before .before .before .before .before .before .before in
+    let r = l .before .before .args .self in
+    c .past-of .ensures ∙ ap (λ (x : Layout). pastIn x (r .t)) (l .layout-of .ensures) ∙ past-of-layout (r .plan) (r .t)
+
+layout-of-requires : tie.Need-layout-of-requires
+layout-of-requires c κs = search needs
+
+can-go-on-requires : tie.Need-can-go-on-requires
+can-go-on-requires c κs = search needs
+
+is-accepted-requires : tie.Need-is-accepted-requires
+is-accepted-requires c κs = search needs
+
+returns : tie.Need-returns
+returns c = step-refused _ _ _ (c .before .before .can-go-on .ensures) (c .before .is-accepted .ensures) _ (not-true _ (c .if1 .taken))
+
+returns-2 : tie.Need-returns-2
+returns-2 c =
+    let e = c .before .before .before in
+    other-refused _ _ _ (e .before .before .can-go-on .ensures) (e .before .is-accepted .ensures) _ (not-false _ (e .if1 .left)) (ne-eqb _ _ (c .if2 .taken))
+
+past-of-requires : tie.Need-past-of-requires
+past-of-requires c κs = search needs
+
+chosen-requires : tie.Need-chosen-requires
+chosen-requires c κs = (sound-run (c .before .before .before .before), place c)
+
+kind-fits-requires : tie.Need-kind-fits-requires
+kind-fits-requires c κs = search needs
+
+returns-3 : tie.Need-returns-3
+returns-3 c =
+    let n = c .before .before .before .before in
+    let e = n .before .before .before in
+    kind-refused _ _ _ (e .before .before .can-go-on .ensures) (e .before .is-accepted .ensures) _ (eq-eqb _ _ (n .if2 .left)) _ (c .before .before .chosen .ensures) (not-false _ (e .if1 .left)) (sym (c .before .kind-fits .ensures) ∙ not-true _ (c .if3 .taken))
+
+next-run-requires : tie.Need-next-run-requires
+next-run-requires c κs =
+    let e = c .before .before .before .before .before .before .before in
+    (sound-run e, rw (c .before .before .chosen .ensures) (countable e), e .before .before .before .layout-of .ensures)
+
+returns-4 : tie.Need-returns-4
+returns-4 c =
+    let k = c .before in
+    let n = k .before .before .before .before in
+    let e = n .before .before .before in
+    stepped _ _ _ (e .before .before .can-go-on .ensures) (e .before .is-accepted .ensures) _ (eq-eqb _ _ (n .if2 .left)) _ (k .before .before .chosen .ensures) (not-false _ (e .if1 .left)) (sym (k .before .kind-fits .ensures) ∙ not-false _ (k .if3 .left)) _ (c .next-run .ensures)
+
+pub step-spec : {M : Type 1} → statement M
+step-spec =
+    tie.close
+    (tie.spec
+    layout-of-requires
+    can-go-on-requires
+    is-accepted-requires
+    returns
+    returns-2
+    past-of-requires
+    chosen-requires
+    kind-fits-requires
+    returns-3
+    next-run-requires
+    returns-4)
