@@ -1,7 +1,9 @@
 // The run of an accepted plan, slot by slot: start, coherence, choice, report, expiry, phase. Texts and programs are above.
 ghost use mathlib.Core.Path.{_≡_};
 ghost use Rattle.intervals.specs.Layout.{layoutOf};
-ghost use Rattle.executive.specs.Run.{blankRun};
+ghost use Rattle.executive.specs.Run.{freshEntry, blankRun, start};
+ghost use lib.ListN.{replicate};
+ghost use Rattle.plan.specs.Limits.{maxJobs};
 ghost use Rattle.executive.specs.Coherent.{coherent};
 ghost use Rattle.executive.specs.Choice.{canGoOn, choose};
 ghost use Rattle.executive.specs.Step.{nextRun, step};
@@ -86,11 +88,7 @@ pub fn blank_run() -> Run
     ensures { λ r. ⌜ r ≡ blankRun ⌝ }
 {
     let p = plan::blank_plan();
-    let e = Entry {
-        standing: Standing::Waiting,
-        given: 0,
-    };
-    let job = [e; plan::JOBS];
+    let job = fresh_entries();
     let hi = [0i32; intervals::INTERVALS];
     let lo = [0i32; intervals::INTERVALS];
     Run {
@@ -100,6 +98,47 @@ pub fn blank_run() -> Run
         hi: hi,
         lo: lo,
         job: job,
+    }
+}
+
+// Every entry waiting with 0 given.
+fn fresh_entries() -> [Entry; plan::JOBS]
+    ensures { λ r. ⌜ r ≡ replicate maxJobs freshEntry ⌝ }
+{
+    let e = Entry {
+        standing: Standing::Waiting,
+        given: 0,
+    };
+    [e; plan::JOBS]
+}
+
+// A new run of an accepted plan, or the plan's refusal beside the blank run.
+pub fn start(p: Plan) -> Started
+    ensures { λ r. ⌜ r ≡ start p ⌝ }
+{
+    let analysis = acceptance::analysis_of(p);
+    let answer = analysis.answer;
+    if !answers::is_accepted(answer) {
+        let blank = blank_run();
+        return Started {
+            answer: answer,
+            run: blank,
+        };
+    }
+    let hi = analysis.hi;
+    let lo = analysis.lo;
+    let job = fresh_entries();
+    let run = Run {
+        plan: p,
+        t: 0,
+        phase: Phase::T,
+        hi: hi,
+        lo: lo,
+        job: job,
+    };
+    Started {
+        answer: Answer::Accepted,
+        run: run,
     }
 }
 
