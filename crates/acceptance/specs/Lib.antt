@@ -2,7 +2,9 @@ pub mod Acceptance
 pub mod Analysis
 pub mod Rising
 pub mod RisingLaws
+pub mod Overfull
 pub mod OverfullLaws
-pub mod Along
-pub mod AlongLaws
+pub mod Work
+pub mod WorkLaws
+pub mod StoredLaws
 pub mod AnalysisLaws
