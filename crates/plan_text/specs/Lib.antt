@@ -1,5 +1,6 @@
 pub mod Read
 pub mod Write
+pub mod Parts
 pub mod RoundLaws
 pub mod WriteLaws
 pub mod RoundTrip

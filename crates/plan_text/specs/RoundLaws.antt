@@ -21,6 +21,7 @@ use Rattle.plan.specs.Plan.{jobsOf, slotsOf, blankJob}
 use Rattle.lines.specs.Lines.{bytes, line, numberLine, sameBytes, number, Cursor, got, must, many, field}
 use Rattle.lines.specs.NumberLaws.{nothing}
 use Rattle.lines.specs.RoundLaws.{cursor, plain, got-same, onward-there, onward-back, field-there, field-back, Undoes, number-undoes, All, many-there, many-back, must-there, must-back}
+use Rattle.plan_text.specs.Parts.{Small, SmallJob, Writable, cleared}
 use Rattle.plan_text.specs.Read.{levelText, jobText, planText, levelIn, nextJob, nextPlan}
 
 -- ---- levels
@@ -64,16 +65,6 @@ level-undoes =
     }
 
 -- ---- a job
-
--- the number on each line of a job, 0 for the level's
-abbrev pub numbersIn : Job → List ℕ
-numbersIn j = 0 ∷ j .release ∷ j .deadline ∷ j .lo ∷ j .hi ∷ []
-
-abbrev pub Small : ℕ → Type 0
-Small n = n ≤ 9999
-
-abbrev pub SmallJob : Job → Type 0
-SmallJob j = All Small (numbersIn j)
 
 job-there : (j : Job) (l : ℕ) (rest : List ℕ) → SmallJob j → (m : ℕ) × (nextJob (cursor l (jobText j ++ rest)) ≡ got j (cursor m rest))
 unfolding nextJob jobText
@@ -135,17 +126,6 @@ pub job-undoes : Undoes nextJob jobText SmallJob
 job-undoes = record { there = job-there; back = job-back }
 
 -- ---- a plan
-
--- what the text of a plan needs to be read again: N and n within their limits, and no number above 9999
-pub record Writable (p : Plan) : Type 0 where
-  pub slots-fit : oneTo maxSlots (p .slots) ≡ true
-  pub jobs-fit : oneTo maxJobs (p .jobs) ≡ true
-  pub small-jobs : All SmallJob (jobsOf p)
-  pub small-slots : All Small (slotsOf p)
-
--- the plan with 0 and LO beyond n and N
-abbrev pub cleared : Plan → Plan
-cleared p = record { slots = p .slots; jobs = p .jobs; job = filled maxJobs blankJob (jobsOf p); table = filled maxSlots 0 (slotsOf p) }
 
 unless-accepted : (refusal : Answer) (holds : Bool) → holds ≡ true → accepted (refusal unless holds) ≡ true
 unfolding accepted

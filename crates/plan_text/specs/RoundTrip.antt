@@ -19,7 +19,8 @@ use Rattle.lines.specs.RoundLaws.{onward-there, onward-back, got-same, must-bac
 use Rattle.plan_text.specs.declared.PlanRead.{PlanRead}
 use Rattle.plan_text.specs.Read.{planText, levelIn, nextJob, nextPlan, onlyPlan, startOf, planRead, readPlan}
 use Rattle.plan_text.specs.Write.{writeAnswer, writeOut}
-use Rattle.plan_text.specs.RoundLaws.{Writable, cleared, one-to, plan-there, plan-back}
+use Rattle.plan_text.specs.Parts.{Writable, cleared}
+use Rattle.plan_text.specs.RoundLaws.{one-to, plan-there, plan-back}
 use Rattle.plan_text.specs.WriteLaws.{accepted-writable, accepted-room, writable-answer, writable-out}
 
 -- ---- what is written reads back

@@ -17,7 +17,8 @@ use Rattle.plan.specs.Rules.{check2, check3}
 use Rattle.lines.specs.RoundLaws.{All}
 use Rattle.plan_text.specs.Read.{planText}
 use Rattle.plan_text.specs.Write.{numbersOn, numbersFit, writeAnswer, writeOut}
-use Rattle.plan_text.specs.RoundLaws.{numbersIn, Small, Writable, one-to, limit-slots, limit-jobs}
+use Rattle.plan_text.specs.Parts.{numbersIn, fourDigits, Small, Writable}
+use Rattle.plan_text.specs.RoundLaws.{one-to, limit-slots, limit-jobs}
 
 -- ---- all of a list made of lists
 
@@ -42,10 +43,6 @@ module _ {A : Type 0} (Ok : A → Type 0) where
     all-unflat (x ∷ xs) h = let r = all-split (f x) (flatMap f xs) h in (r .0, all-unflat xs (r .1))
 
 -- ---- the numbers of a text
-
--- what the writer says of the number on a line
-abbrev pub fourDigits : ℕ → ℕ → Answer
-fourDigits line n = Form line unless (n ≤? maxNumber)
 
 small-all : (k : ℕ) (ns : List ℕ) → accepted (firstRefusal fourDigits k ns) ≡ true → All Small ns
 unfolding firstRefusal accepted

@@ -29,8 +29,9 @@ use Rattle.lines.specs.Writing.{putFit, placeAfter}
 use Rattle.lines.specs.WritingLaws.{digits-shorter, line-length, first-room, then-room, fit-then, after-fits, put-fits, put-start}
 use Rattle.plan_text.specs.Read.{levelText, jobText, planText}
 use Rattle.plan_text.specs.Write.{numbersOn, numbersFit, writeAnswer, writeOut}
-use Rattle.plan_text.specs.RoundLaws.{numbersIn, one-to, limit-slots, limit-jobs}
-use Rattle.plan_text.specs.WriteLaws.{fourDigits, all-small}
+use Rattle.plan_text.specs.Parts.{numbersIn, fourDigits}
+use Rattle.plan_text.specs.RoundLaws.{one-to, limit-slots, limit-jobs}
+use Rattle.plan_text.specs.WriteLaws.{all-small}
 
 -- ---- the checks in the order of the code
 

@@ -9,8 +9,7 @@ use Rattle.words.specs.ListLaws.{long}
 use Rattle.answers.specs.Answer.{firstRefusal}
 use Rattle.plan.specs.Limits.{maxJobs}
 use Rattle.plan.specs.Plan.{blankJob}
-use Rattle.plan_text.specs.RoundLaws.{numbersIn}
-use Rattle.plan_text.specs.WriteLaws.{fourDigits}
+use Rattle.plan_text.specs.Parts.{numbersIn, fourDigits}
 use Rattle.plan_text.specs.WriterLaws.{jobs-from, jobs-end, passes, refuses}
 use Rattle.plan_text.proofs.writer.jobs_fit.Statement.{statement}
 use Rattle.plan_text.proofs.writer.jobs_fit.Tie as tie

@@ -10,8 +10,7 @@ use Rattle.answers.specs.Answer.{firstRefusal, _andThen_}
 use Rattle.plan.specs.Limits.{maxJobs}
 use Rattle.plan.specs.Plan.{jobsOf, slotsOf}
 use Rattle.plan_text.specs.Write.{numbersFit}
-use Rattle.plan_text.specs.RoundLaws.{numbersIn}
-use Rattle.plan_text.specs.WriteLaws.{fourDigits}
+use Rattle.plan_text.specs.Parts.{numbersIn, fourDigits}
 use Rattle.plan_text.specs.WriterLaws.{numbers-parts, passes, refuses}
 use Rattle.plan_text.proofs.writer.numbers_fit.Statement.{statement}
 use Rattle.plan_text.proofs.writer.numbers_fit.Tie as tie

@@ -7,7 +7,7 @@ use borrow.Author.Needs.{needs}
 use Rattle.answers.specs.Answer.{firstRefusal}
 use Rattle.answers.specs.AnswerLaws.{first-end}
 use Rattle.plan.specs.Limits.{maxSlots}
-use Rattle.plan_text.specs.WriteLaws.{fourDigits}
+use Rattle.plan_text.specs.Parts.{fourDigits}
 use Rattle.plan_text.specs.WriterLaws.{slot-high, slot-fits}
 use Rattle.plan_text.proofs.writer.slots_fit.Statement.{statement}
 use Rattle.plan_text.proofs.writer.slots_fit.Tie as tie
