@@ -18,7 +18,7 @@ use Rattle.plan.specs.declared.Job.{Job}
 use Rattle.plan.specs.declared.Plan.{Plan}
 use Rattle.plan.specs.Limits.{maxSlots, maxJobs, oneTo}
 use Rattle.plan.specs.Plan.{jobsOf, slotsOf, blankJob}
-use Rattle.lines.specs.Lines.{bytes, line, numberLine, sameBytes, number, Cursor, got, must, many, field}
+use Rattle.lines.specs.Lines.{bytes, line, numberLine, sameBytes, number, Cursor, got, give, must, many, field}
 use Rattle.lines.specs.NumberLaws.{nothing}
 use Rattle.lines.specs.RoundLaws.{cursor, plain, got-same, onward-there, onward-back, field-there, field-back, Undoes, number-undoes, All, many-there, many-back, must-there, must-back}
 use Rattle.plan_text.specs.Parts.{Small, SmallJob, Writable, cleared}
@@ -212,14 +212,14 @@ plan-back p here next e =
     let b = onward-back (field number "jobs=" (a′ .1)) _ p next (a′ .3) in
     let b′ = onward-back (must (JobLimit unless oneTo maxJobs (b .0)) (b .1)) _ p next (b .3) in
     let c = onward-back (many (b .0) nextJob (b′ .1)) _ p next (b′ .3) in
-    let d = onward-back (many (a .0) (field number "slot=") (c .1)) _ p next (c .3) in
+    let d = onward-back (many (a .0) (field number "slot=") (c .1)) (λ table. give (made (a .0) (b .0) (c .0) table)) p next (c .3) in
     let A = number-undoes "slots=" refl .back (a .0) here (a .1) (a .2) in
     let A′ = must-back (a .1) (SlotLimit unless oneTo maxSlots (a .0)) (a′ .0) (a′ .1) (a′ .2) in
     let B = number-undoes "jobs=" refl .back (b .0) (a′ .1) (b .1) (b .2) in
     let B′ = must-back (b .1) (JobLimit unless oneTo maxJobs (b .0)) (b′ .0) (b′ .1) (b′ .2) in
     let C = many-back job-undoes (b .0) (c .0) (b′ .1) (c .1) (c .2) in
     let D = many-back (number-undoes "slot=" refl) (a .0) (d .0) (c .1) (d .1) (d .2) in
-    let same = got-same (d .3) in
+    let same = got-same {a = made (a .0) (b .0) (c .0) (d .0)} {c = d .1} (d .3) in
     plan-same (made (a .0) (b .0) (c .0) (d .0)) p (here .text) (d .1) next (same .0) (same .1) (
       made-lines (a .0) (b .0) (c .0) (d .0) (C .1) (D .1) (here .text) (a′ .1 .text) (b′ .1 .text) (c .1 .text) (d .1 .text)
           (A .0 ∙ ap (λ (x : Cursor). numberLine "slots=" (a .0) ++ x .text) (A′ .1))
