@@ -13,7 +13,8 @@ use Rattle.acceptance_promise.specs.InOrderLaws.{job-in, windows-hold}
 use Rattle.acceptance_promise.specs.Chain.{Quiet, Chain, done, link}
 
 -- intervals that cover a to N, and end at each deadline above a
-chain-of : (p : Plan) (a : ℕ) (xs : List Interval) → Covers a xs (p .slots) → ((k : ℕ) → k < p .jobs → a < jobAt p k .deadline → List·Memᴰ (jobAt p k .deadline) (ends xs)) → Chain p a xs
+chain-of : (p : Plan) (a : ℕ) (xs : List Interval) → Covers a xs (p .slots)
+    → ((k : ℕ) → k < p .jobs → a < jobAt p k .deadline → List·Memᴰ (jobAt p k .deadline) (ends xs)) → Chain p a xs
 chain-of p a [] covers among = done covers
 chain-of p a (x ∷ xs) covers among = link (covers .0) (covers .1) quiet (chain-of p (x .end) xs (covers .2) later)
   where

@@ -14,11 +14,12 @@ use Rattle.answers.specs.declared.Answer.the-variants.{Overfull}
 use Rattle.answers.specs.Answer.{accepted, _unless_}
 use Rattle.windows.specs.Sums.{total, gate}
 use Rattle.windows.specs.SumLaws.{total-same, gate-open, gate-shut, gate-none}
-use Rattle.windows.specs.Windows.{within}
+use Rattle.windows.specs.Windows.{insideAt, within}
 use Rattle.windows.specs.TriedLaws.{tried-enough}
 use Rattle.plan.specs.declared.Job.{Job}
 use Rattle.plan.specs.declared.Plan.{Plan}
 use Rattle.plan.specs.Plan.{jobsOf, blankJob, isHi}
+use Rattle.intervals.specs.Intervals.{rising}
 use Rattle.intervals.specs.Spares.{hiLeft}
 use Rattle.acceptance.specs.Acceptance.{hiWithin, hiJobs, hiReleases, hiDeadlines, check8At, check8}
 use Rattle.acceptance_promise.specs.Promise.{jobAt, windowsOf, InOrder, hiOf, A1}
@@ -45,17 +46,23 @@ hi-member {j} (i ∷ js) (List·Memᴰ·tail m) h = go (isHi i) (hi-member js m 
     go true r = List·Memᴰ·tail r
     go false r = r
 
--- what one job adds to the sum of a window
-hi-inside : (j : Job) (a b : ℕ) → (if isHi j && (a ≤? j .release) && (j .deadline ≤? b) then j .hi else 0) ≡ gate a (j .release) (gate (j .deadline) b (hiLeft j true 0))
+-- what one job adds to the sum of a window: its hi, if it is HI and its window lies there
+abbrev hiInside : ℕ → ℕ → Job → ℕ
+hiInside a b j = if isHi j && (a ≤? j .release) && (j .deadline ≤? b) then j .hi else 0
+
+hi-inside : (j : Job) (a b : ℕ) → hiInside a b j ≡ gate a (j .release) (gate (j .deadline) b (hiLeft j true 0))
 unfolding hiLeft
 hi-inside j a b = go (isHi j) refl (decLe a (j .release)) (decLe (j .deadline) b)
   where
-    go : (h : Bool) → isHi j ≡ h → Dec (a ≤ j .release) → Dec (j .deadline ≤ b)
-        → (if isHi j && (a ≤? j .release) && (j .deadline ≤? b) then j .hi else 0) ≡ gate a (j .release) (gate (j .deadline) b (if isHi j then j .hi - 0 else 0))
-    go true e (yes p) (yes q) = rw (e, le-leb a (j .release) p, le-leb (j .deadline) b q) (omega (arith, gate-open {a = a} {b = j .release} (gate (j .deadline) b (j .hi - 0)) p, gate-open (j .hi - 0) q))
+    work : ℕ
+    work = j .hi - 0
+
+    go : (h : Bool) → isHi j ≡ h → Dec (a ≤ j .release) → Dec (j .deadline ≤ b) → hiInside a b j ≡ gate a (j .release) (gate (j .deadline) b (if isHi j then work else 0))
+    go true e (yes p) (yes q) = rw (e, le-leb a (j .release) p, le-leb (j .deadline) b q) (omega (arith, gate-open {a = a} {b = j .release} (gate (j .deadline) b work) p, gate-open {b = b} work q))
     go true e (yes p) (no q) =
-        rw (e, le-leb a (j .release) p, lt-leb (j .deadline) b (omega arith)) (omega (arith, gate-open {a = a} {b = j .release} (gate (j .deadline) b (j .hi - 0)) p, gate-shut {a = j .deadline} {b = b} (j .hi - 0) (omega arith)))
-    go true e (no p) q = rw (e, lt-leb a (j .release) (omega arith)) (omega (arith, gate-shut {a = a} {b = j .release} (gate (j .deadline) b (j .hi - 0)) (omega arith)))
+        rw (e, le-leb a (j .release) p, lt-leb (j .deadline) b (omega arith))
+        (omega (arith, gate-open {a = a} {b = j .release} (gate (j .deadline) b work) p, gate-shut {a = j .deadline} {b = b} work (omega arith)))
+    go true e (no p) q = rw (e, lt-leb a (j .release) (omega arith)) (omega (arith, gate-shut {a = a} {b = j .release} (gate (j .deadline) b work) (omega arith)))
     go false e p q = rw e (omega (arith, gate-none a (j .release) (gate (j .deadline) b 0) (gate-none (j .deadline) b 0 refl)))
 
 module _ (p : Plan) (ok : InOrder p) where
@@ -63,15 +70,18 @@ module _ (p : Plan) (ok : InOrder p) where
   hi-within : (a b : ℕ) → hiWithin (jobsOf p) a b ≡ within (windowsOf p) (hiOf p) a b
   unfolding hiWithin within hiOf
   hi-within a b =
-      sum-total (λ j. if isHi j && (a ≤? j .release) && (j .deadline ≤? b) then j .hi else 0) blankJob (jobsOf p)
+      sum-total (hiInside a b) blankJob (jobsOf p)
       ∙ rw (jobs-length p ok)
-      (total-same (p .jobs) (λ k. if isHi (getD (jobsOf p) k blankJob) && (a ≤? getD (jobsOf p) k blankJob .release) && (getD (jobsOf p) k blankJob .deadline ≤? b) then getD (jobsOf p) k blankJob .hi else 0)
-      (λ k. gate a (jobAt p k .release) (gate (jobAt p k .deadline) b (hiOf p k))) (λ k l. rw (among-jobs p k l) (hi-inside (jobAt p k) a b)))
+      (total-same (p .jobs) (λ k. hiInside a b (getD (jobsOf p) k blankJob)) (insideAt (windowsOf p) (hiOf p) a b) (λ k l. rw (among-jobs p k l) (hi-inside (jobAt p k) a b)))
 
   -- a job with HI work is a HI job
   is-hi : (k : ℕ) → 0 < hiOf p k → isHi (jobAt p k) ≡ true
   unfolding hiOf
   is-hi k h = ⊎-elim (λ w. w .1) (λ w. absurd (omega arith)) (hi-left-case (jobAt p k) true 0)
+
+  -- the release, or deadline, of a HI job is among those tried
+  hi-rising : (f : Job → ℕ) (k : ℕ) → k < p .jobs → isHi (jobAt p k) ≡ true → List·Memᴰ (f (jobAt p k)) (rising (map f (hiJobs (jobsOf p))))
+  hi-rising f k l h = rising-has (map f (hiJobs (jobsOf p))) (member-map f (hi-member (jobsOf p) (job-in p ok k l) h))
 
   -- the test of check 8 at a and b
   abbrev fits : ℕ → ℕ → Bool
@@ -84,7 +94,11 @@ module _ (p : Plan) (ok : InOrder p) where
     where
       tried : (i k : ℕ) → i < p .jobs → k < p .jobs → 0 < hiOf p i → 0 < hiOf p k → jobAt p i .release < jobAt p k .deadline
           → within (windowsOf p) (hiOf p) (jobAt p i .release) (jobAt p k .deadline) ≤ jobAt p k .deadline - jobAt p i .release
-      tried i k l m u v h = ⊎-elim (λ w. absurd (omega (arith, leb-true b a w))) (λ w. omega (arith, leb-true (hiWithin (jobsOf p) a b) (b - a) w, hi-within a b)) (either-true (b ≤? a) (hiWithin (jobsOf p) a b ≤? b - a) test)
+      tried i k l m u v h =
+          ⊎-elim
+          (λ w. absurd (omega (arith, leb-true b a w)))
+          (λ w. omega (arith, leb-true (hiWithin (jobsOf p) a b) (b - a) w, hi-within a b))
+          (either-true (b ≤? a) (hiWithin (jobsOf p) a b ≤? b - a) test)
         where
           a : ℕ
           a = jobAt p i .release
@@ -93,10 +107,10 @@ module _ (p : Plan) (ok : InOrder p) where
           b = jobAt p k .deadline
 
           at-a : accepted (check8At p a) ≡ true
-          at-a = member-accepted (check8At p) 0 (hiReleases p) passes (rising-has (map (λ (j : Job). j .release) (hiJobs (jobsOf p))) (member-map (λ (j : Job). j .release) (hi-member (jobsOf p) (job-in p ok i l) (is-hi i u))))
+          at-a = member-accepted (check8At p) 0 (hiReleases p) passes (hi-rising (λ j. j .release) i l (is-hi i u))
 
           at-b : accepted (Overfull a b unless fits a b) ≡ true
-          at-b = member-accepted (λ b. Overfull a b unless fits a b) 0 (hiDeadlines p) at-a (rising-has (map (λ (j : Job). j .deadline) (hiJobs (jobsOf p))) (member-map (λ (j : Job). j .deadline) (hi-member (jobsOf p) (job-in p ok k m) (is-hi k v))))
+          at-b = member-accepted (λ b. Overfull a b unless fits a b) 0 (hiDeadlines p) at-a (hi-rising (λ j. j .deadline) k m (is-hi k v))
 
           test : fits a b ≡ true
           test = unless-holds (Overfull a b) (fits a b) refl at-b

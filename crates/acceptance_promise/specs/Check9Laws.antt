@@ -4,7 +4,7 @@ use native.Mathlib.Nat.{not-suc-le-zero, le-of-suc-le-suc}
 use native.Mathlib.Omega.{arith}
 use mathlib.Core.Path.{_≡_, refl, _∙_}
 use mathlib.Core.Logic.{_⊎_, inl, inr, ⊎-elim, _↔_}
-use mathlib.Core.Bool.{true, false, not}
+use mathlib.Core.Bool.{Bool, true, false, not}
 use mathlib.Core.List.{List, [], _∷_, zipWith}
 use lib.ListN.{length, getD}
 use borrow.Author.Tests.{not-true, not-false}
@@ -28,7 +28,8 @@ use Rattle.acceptance_promise.specs.SpareLaws.{not-below-exactly, below-
 use Rattle.acceptance_promise.specs.Check8Laws.{a1-holds, a1-broken}
 
 -- what stands at a place of two lists put together
-pub zip-at : {A B C : Type 0} (f : A → B → C) (da : A) (db : B) (dc : C) (xs : List A) (ys : List B) (i : ℕ) → i < length xs → i < length ys → getD (zipWith f xs ys) i dc ≡ f (getD xs i da) (getD ys i db)
+pub zip-at : {A B C : Type 0} (f : A → B → C) (da : A) (db : B) (dc : C) (xs : List A) (ys : List B) (i : ℕ) → i < length xs → i < length ys
+    → getD (zipWith f xs ys) i dc ≡ f (getD xs i da) (getD ys i db)
 unfolding zipWith
 zip-at f da db dc [] ys i l m = absurd (not-suc-le-zero l)
 zip-at f da db dc (x ∷ xs) [] i l m = absurd (not-suc-le-zero m)
@@ -45,13 +46,17 @@ module _ (p : Plan) (ok : InOrder p) where
       zip-at (λ j c. hiLeft j (c <? j .lo) c) blankJob 0 0 (jobsOf p) (countsAt p t) k (rw (jobs-length p ok) l) (rw (counts-length p t) few)
       ∙ rw (among-jobs p k l, count)
 
+  -- the test of check 9: along the table, the current HI spare is below 0 at border t
+  abbrev overdrawn : ℕ → Bool
+  overdrawn t = below0 (current p t (row p t (alongTable p t)))
+
   module _ (t : ℕ) (before : t < p .slots) where
     -- nothing may be asked that is due at or before t
     along-ahead : (k : ℕ) → k < p .jobs → jobAt p k .deadline ≤ t → getD (alongTable p t) k 0 ≡ 0
     along-ahead k l h = along-asked t k l ∙ asked-due p ok t k l h
 
     -- check 9 at border t
-    along-exactly : (below0 (current p t (row p t (alongTable p t))) ≡ false) ↔ InTime (windowsOf p) t (asked p t)
+    along-exactly : (overdrawn t ≡ false) ↔ InTime (windowsOf p) t (asked p t)
     along-exactly =
         let s = not-below-exactly p ok (alongTable p t) t before along-ahead in (
           λ h. in-time-mono (windowsOf p) t (λ k. getD (alongTable p t) k 0) (asked p t) (λ k l. omega (arith, along-asked t k l)) (s .0 h),
@@ -62,17 +67,17 @@ module _ (p : Plan) (ok : InOrder p) where
   pub a2-holds : accepted (check9 p) ≡ true → A2 p
   unfolding check9 accepted
   a2-holds passes t before =
-      let h = each-accepted (λ t _. Overdrawn t unless not (below0 (current p t (row p t (alongTable p t))))) 0 0 (slotsOf p) passes t (rw (slots-length p ok) before) t (omega arith) in
-      along-exactly t before .0 (not-true (below0 (current p t (row p t (alongTable p t)))) (unless-holds (Overdrawn t) (not (below0 (current p t (row p t (alongTable p t))))) refl h))
+      let h = each-accepted (λ t _. Overdrawn t unless not (overdrawn t)) 0 0 (slotsOf p) passes t (rw (slots-length p ok) before) t (omega arith) in
+      along-exactly t before .0 (not-true (overdrawn t) (unless-holds (Overdrawn t) (not (overdrawn t)) refl h))
 
   -- check 9 refuses: at some border too much may be asked
   pub a2-broken : accepted (check9 p) ≡ false → (t e : ℕ) × (t < p .slots) × (e - t < dueBy (windowsOf p) (asked p t) e)
   unfolding check9
   a2-broken refused =
-      let x = some-refused (λ t _. Overdrawn t unless not (below0 (current p t (row p t (alongTable p t))))) 0 0 (slotsOf p) refused in
+      let x = some-refused (λ t _. Overdrawn t unless not (overdrawn t)) 0 0 (slotsOf p) refused in
       let t = x .1 in
       let before : t < p .slots = (let l = rw (slots-length p ok) at (x .2) in omega (arith, x .3)) in
-      let low = not-false (below0 (current p t (row p t (alongTable p t)))) (unless-fails (Overdrawn t) (not (below0 (current p t (row p t (alongTable p t))))) (x .4)) in
+      let low = not-false (overdrawn t) (unless-fails (Overdrawn t) (not (overdrawn t)) (x .4)) in
       let s = below-shows p ok (alongTable p t) t before (along-ahead t before) low in
       (t, s .0, before, omega (arith, s .1, due-mono (windowsOf p) (asked p t) (λ k. getD (alongTable p t) k 0) (λ k l. omega (arith, along-asked t k l)) (s .0)))
 
@@ -94,4 +99,8 @@ accepted-promise p longJob longTable h =
 pub refused-promise : (p : Plan) → InOrder p → accepted (wellFormed p) ≡ true → accepted (acceptance p) ≡ false
     → ((a b : ℕ) × (b - a < within (windowsOf p) (hiOf p) a b)) ⊎ ((t e : ℕ) × (t < p .slots) × (e - t < dueBy (windowsOf p) (asked p t) e))
 unfolding acceptance
-refused-promise p ok passes h = ⊎-elim (λ w. absurd (never passes w)) (λ w. ⊎-elim (λ x. inl (a1-broken p ok x)) (λ x. inr (a2-broken p ok x)) (one-refused (check8 p) (check9 p) w)) (one-refused (wellFormed p) (check8 p andThen check9 p) h)
+refused-promise p ok passes h =
+    ⊎-elim
+    (λ w. absurd (never passes w))
+    (λ w. ⊎-elim (λ x. inl (a1-broken p ok x)) (λ x. inr (a2-broken p ok x)) (one-refused (check8 p) (check9 p) w))
+    (one-refused (wellFormed p) (check8 p andThen check9 p) h)

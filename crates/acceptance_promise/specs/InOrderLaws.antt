@@ -46,7 +46,11 @@ every-true test d (x ∷ xs) h =
 -- what budgets that hold say
 budget-says : (N : ℕ) (j : Job) → budgetHolds N j ≡ true → (1 ≤ j .lo) × (j .lo ≤ j .hi) × (isHi j ≡ false → j .lo ≡ j .hi)
 unfolding budgetHolds
-budget-says N j h = (leb-true 1 (j .lo) (c .0), leb-true (j .lo) (j .hi) (c .1), λ low. ⊎-elim (λ w. absurd (never w low)) (eqb-true (j .lo) (j .hi)) (either-true (isHi j) (j .lo =? j .hi) (a .1)))
+budget-says N j h = (
+  leb-true 1 (j .lo) (c .0),
+  leb-true (j .lo) (j .hi) (c .1),
+  λ low. ⊎-elim (λ w. absurd (never w low)) (eqb-true (j .lo) (j .hi)) (either-true (isHi j) (j .lo =? j .hi) (a .1)),
+)
   where
     a : (((1 ≤? j .lo) && (j .lo ≤? j .hi) && (j .hi ≤? N)) ≡ true) × ((isHi j || (j .lo =? j .hi)) ≡ true)
     a = both-true ((1 ≤? j .lo) && (j .lo ≤? j .hi) && (j .hi ≤? N)) (isHi j || (j .lo =? j .hi)) h
@@ -64,7 +68,11 @@ job-no p k = let e : suc k - 1 ≡ k = omega arith in rw e
 -- what a table slot that holds says of the job it names
 slot-says : (p : Plan) (s k : ℕ) → slotHolds p s (suc k) ≡ true → (k < p .jobs) × (jobAt p k .release ≤ s) × (s < jobAt p k .deadline)
 unfolding slotHolds
-slot-says p s k h = ⊎-elim (λ z. absurd (let e = eqb-true (suc k) 0 z in omega arith)) go (either-true (suc k =? 0) ((suc k ≤? p .jobs) && (jobAt p k .release ≤? s) && (s <? jobAt p k .deadline)) (rw (job-no p k) at h))
+slot-says p s k h =
+    ⊎-elim
+    (λ z. absurd (let e = eqb-true (suc k) 0 z in omega arith))
+    go
+    (either-true (suc k =? 0) ((suc k ≤? p .jobs) && (jobAt p k .release ≤? s) && (s <? jobAt p k .deadline)) (rw (job-no p k) at h))
   where
     go : ((suc k ≤? p .jobs) && (jobAt p k .release ≤? s) && (s <? jobAt p k .deadline)) ≡ true → (k < p .jobs) × (jobAt p k .release ≤ s) × (s < jobAt p k .deadline)
     go w =

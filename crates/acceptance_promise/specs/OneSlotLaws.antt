@@ -24,7 +24,8 @@ module _ (p : Plan) where
   remaining-live g live k h l = hi-left (jobAt p k) (live k) (g k) l h
 
   -- by cases: a live HI job, or nothing
-  pub remaining-case : (g : ℕ → ℕ) (live : ℕ → Bool) (k : ℕ) → ((live k ≡ true) × (isHi (jobAt p k) ≡ true) × (hiRemaining p g live k ≡ jobAt p k .hi - g k)) ⊎ (hiRemaining p g live k ≡ 0)
+  pub remaining-case : (g : ℕ → ℕ) (live : ℕ → Bool) (k : ℕ)
+      → ((live k ≡ true) × (isHi (jobAt p k) ≡ true) × (hiRemaining p g live k ≡ jobAt p k .hi - g k)) ⊎ (hiRemaining p g live k ≡ 0)
   unfolding hiRemaining
   remaining-case g live k = hi-left-case (jobAt p k) (live k) (g k)
 
@@ -37,8 +38,8 @@ module _ (p : Plan) where
       go w (no q) = omega (arith, w .2, remaining-live g live k (w .1) (slot .fewer k l (w .0)), slot .others k l q)
 
   -- and the HI job that had it has less
-  pub remaining-less : (j : ℕ) (g g′ : ℕ → ℕ) (live live′ : ℕ → Bool) → SlotTo p (suc j) g g′ live live′ → j < p .jobs → isHi (jobAt p j) ≡ true → live j ≡ true → g j < jobAt p j .hi
-      → hiRemaining p g′ live′ j + 1 ≤ hiRemaining p g live j
+  pub remaining-less : (j : ℕ) (g g′ : ℕ → ℕ) (live live′ : ℕ → Bool) → SlotTo p (suc j) g g′ live live′
+      → j < p .jobs → isHi (jobAt p j) ≡ true → live j ≡ true → g j < jobAt p j .hi → hiRemaining p g′ live′ j + 1 ≤ hiRemaining p g live j
   remaining-less j g g′ live live′ slot l high alive less =
       let r = remaining-live g live j high alive in
       ⊎-elim (λ w. omega (arith, w .2, slot .more j l refl)) (λ w. omega arith) (remaining-case g′ live′ j)
@@ -58,7 +59,8 @@ module _ (p : Plan) where
       go (no q) (no w) = omega (arith, was, slot .others k l q, tab-last p k t, same-no (tableAt p t) (suc k) w)
 
   -- a live HI job on the table has no more left than may be asked
-  remaining-asked : (t : ℕ) (g : ℕ → ℕ) (live : ℕ → Bool) (k : ℕ) → (live k ≡ true → tab p k t ≤ g k) → (live k ≡ true → isHi (jobAt p k) ≡ true → g k < jobAt p k .lo) → hiRemaining p g live k ≤ asked p t k
+  remaining-asked : (t : ℕ) (g : ℕ → ℕ) (live : ℕ → Bool) (k : ℕ) → (live k ≡ true → tab p k t ≤ g k)
+      → (live k ≡ true → isHi (jobAt p k) ≡ true → g k < jobAt p k .lo) → hiRemaining p g live k ≤ asked p t k
   remaining-asked t g live k ahead early =
       ⊎-elim
       (λ w. let a = ahead (w .0) in let e = early (w .0) (w .1) in omega (arith, w .2, asked-high p t k (w .1) (omega arith)))

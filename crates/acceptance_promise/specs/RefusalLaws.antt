@@ -61,7 +61,8 @@ one-refused a b h = go (accepted a) refl
 -- ---- the first refusal along a list
 module _ {A : Type 0} (judge : ℕ → A → Answer) (d : A) where
   -- there is none: each member is accepted
-  pub each-accepted : (k : ℕ) (xs : List A) → accepted (firstRefusal judge k xs) ≡ true → (i : ℕ) → i < length xs → (m : ℕ) → m ≡ k + i → accepted (judge m (getD xs i d)) ≡ true
+  pub each-accepted : (k : ℕ) (xs : List A) → accepted (firstRefusal judge k xs) ≡ true
+      → (i : ℕ) → i < length xs → (m : ℕ) → m ≡ k + i → accepted (judge m (getD xs i d)) ≡ true
   unfolding firstRefusal
   each-accepted k [] h i l m e = absurd (not-suc-le-zero l)
   each-accepted k (x ∷ xs) h zero l m e =
@@ -70,7 +71,8 @@ module _ {A : Type 0} (judge : ℕ → A → Answer) (d : A) where
   each-accepted k (x ∷ xs) h (suc i) l m e = each-accepted (suc k) xs (both-accept (judge k x) (firstRefusal judge (suc k) xs) h .1) i (le-of-suc-le-suc l) m (omega arith)
 
   -- there is one: some member is refused
-  pub some-refused : (k : ℕ) (xs : List A) → accepted (firstRefusal judge k xs) ≡ false → (i : ℕ) × (m : ℕ) × (i < length xs) × (m ≡ k + i) × (accepted (judge m (getD xs i d)) ≡ false)
+  pub some-refused : (k : ℕ) (xs : List A) → accepted (firstRefusal judge k xs) ≡ false
+      → (i : ℕ) × (m : ℕ) × (i < length xs) × (m ≡ k + i) × (accepted (judge m (getD xs i d)) ≡ false)
   unfolding firstRefusal accepted
   some-refused k [] h = absurd (never refl h)
   some-refused k (x ∷ xs) h = go (one-refused (judge k x) (firstRefusal judge (suc k) xs) h) (some-refused (suc k) xs)

@@ -13,7 +13,7 @@ use Rattle.words.specs.Words.{if_then_else_, _=?_, below0, above0}
 use Rattle.words.specs.Difference.{Is, is-pos, is-sub, is-add, is-as}
 use Rattle.windows.specs.Sums.{total, gate}
 use Rattle.windows.specs.SumLaws.{total-same, total-none, total-add, total-mono, gate-open, gate-shut, gate-case}
-use Rattle.windows.specs.Windows.{dueBy, InTime}
+use Rattle.windows.specs.Windows.{dueAt, dueBy, InTime}
 use Rattle.plan.specs.declared.Job.{Job}
 use Rattle.plan.specs.declared.Plan.{Plan}
 use Rattle.plan.specs.Plan.{jobsOf, blankJob}
@@ -80,8 +80,31 @@ at-none d e n z = go (ℕ-discrete d e)
 remaining-total : (e : ℕ) (js : List Job) (ws : List ℕ) → remaining e js ws ≡ total (length js) (λ k. at (getD js k blankJob .deadline) e (getD ws k 0))
 unfolding remaining total at
 remaining-total e [] ws = refl
-remaining-total e (j ∷ js) [] = sym (total-none (length (j ∷ js)) (λ k. at (getD (j ∷ js) k blankJob .deadline) e (getD [] k 0)) (λ k l. at-none (getD (j ∷ js) k blankJob .deadline) e (getD [] k 0) refl))
+remaining-total e (j ∷ js) [] =
+    sym (total-none (length (j ∷ js)) (λ k. at (getD (j ∷ js) k blankJob .deadline) e (getD [] k 0)) (λ k l. at-none (getD (j ∷ js) k blankJob .deadline) e (getD [] k 0) refl))
 remaining-total e (j ∷ js) (w ∷ ws) = let r = remaining-total e js ws in omega arith
+
+-- ---- one job's work, due at d, from border to border
+-- no less by a later border
+gate-later : (d a b n : ℕ) → a ≤ b → gate d a n ≤ gate d b n
+gate-later d a b n h = ⊎-elim (λ w. omega (arith, w .1, gate-open {a = d} {b = b} n (omega (arith, w .0)))) (λ w. omega arith) (gate-case d a n)
+
+-- no more by a later border, where d is not after a and by that
+gate-quiet : (d a c n : ℕ) → a ≤ c → (a < d → c < d) → gate d c n ≡ gate d a n
+gate-quiet d a c n h quiet = go (decLe d a)
+  where
+    go : Dec (d ≤ a) → gate d c n ≡ gate d a n
+    go (yes q) = gate-open {a = d} {b = c} n (omega arith) ∙ sym (gate-open n q)
+    go (no q) = gate-shut {a = d} {b = c} n (quiet (omega arith)) ∙ sym (gate-shut {a = d} {b = a} n (omega arith))
+
+-- at b it is more, where d is b
+gate-step : (d a b n : ℕ) → a < b → (a < d → b ≤ d) → gate d b n ≡ gate d a n + at d b n
+gate-step d a b n h quiet = go (decLe d a) (ℕ-discrete d b)
+  where
+    go : Dec (d ≤ a) → Dec (d ≡ b) → gate d b n ≡ gate d a n + at d b n
+    go (yes q) e = omega (arith, gate-open {a = d} {b = b} n (omega arith), gate-open n q, at-no d b n (λ f. omega arith))
+    go (no q) (yes e) = omega (arith, gate-open {a = d} {b = b} n (omega arith), gate-shut {a = d} {b = a} n (omega arith), at-yes d b n e)
+    go (no q) (no e) = let l = quiet (omega arith) in omega (arith, gate-shut {a = d} {b = b} n (omega arith), gate-shut {a = d} {b = a} n (omega arith), at-no d b n e)
 
 module _ (p : Plan) (ok : InOrder p) (ws : List ℕ) where
   -- the remaining work of the interval that ends at e, over the plan's jobs
@@ -92,42 +115,34 @@ module _ (p : Plan) (ok : InOrder p) (ws : List ℕ) where
       (total-same (p .jobs) (λ k. at (getD (jobsOf p) k blankJob .deadline) e (getD ws k 0)) (λ k. at (jobAt p k .deadline) e (getD ws k 0)) (λ k l. rw (among-jobs p k l)))
 
   -- ---- the work due, from border to border
+  -- what the job at place k adds to the work due by e
+  abbrev dueOf : ℕ → ℕ → ℕ
+  dueOf = dueAt (windowsOf p) (λ k. getD ws k 0)
+
   -- no less by a later border
   due-later : (a b : ℕ) → a ≤ b → due p ws a ≤ due p ws b
   unfolding dueBy
-  due-later a b h =
-      total-mono (p .jobs) (λ k. gate (jobAt p k .deadline) a (getD ws k 0)) (λ k. gate (jobAt p k .deadline) b (getD ws k 0))
-      (λ k l. ⊎-elim (λ w. omega (arith, w .1, gate-open {a = jobAt p k .deadline} {b = b} (getD ws k 0) (omega (arith, w .0)))) (λ w. omega (arith, w .1)) (gate-case (jobAt p k .deadline) a (getD ws k 0)))
+  due-later a b h = total-mono (p .jobs) (dueOf a) (dueOf b) (λ k l. gate-later (jobAt p k .deadline) a b (getD ws k 0) h)
 
   -- no more inside an interval
   due-quiet : (a b c : ℕ) → Quiet p a b → a ≤ c → c < b → due p ws c ≡ due p ws a
   unfolding dueBy
-  due-quiet a b c quiet h l = total-same (p .jobs) (λ k. gate (jobAt p k .deadline) c (getD ws k 0)) (λ k. gate (jobAt p k .deadline) a (getD ws k 0)) (λ k m. each k m (decLe (jobAt p k .deadline) a))
-    where
-      each : (k : ℕ) → k < p .jobs → Dec (jobAt p k .deadline ≤ a) → gate (jobAt p k .deadline) c (getD ws k 0) ≡ gate (jobAt p k .deadline) a (getD ws k 0)
-      each k m (yes q) = gate-open {a = jobAt p k .deadline} {b = c} (getD ws k 0) (omega arith) ∙ sym (gate-open (getD ws k 0) q)
-      each k m (no q) = gate-shut {a = jobAt p k .deadline} {b = c} (getD ws k 0) (omega (arith, quiet k m (omega arith))) ∙ sym (gate-shut {a = jobAt p k .deadline} {b = a} (getD ws k 0) (omega arith))
+  due-quiet a b c quiet h l = total-same (p .jobs) (dueOf c) (dueOf a) (λ k m. gate-quiet (jobAt p k .deadline) a c (getD ws k 0) h (λ d. omega (arith, quiet k m d)))
 
   -- no more after N
   due-end : (e : ℕ) → due p ws e ≤ due p ws (p .slots)
-  unfolding dueBy
-  due-end e =
-      total-mono (p .jobs) (λ k. gate (jobAt p k .deadline) e (getD ws k 0)) (λ k. gate (jobAt p k .deadline) (p .slots) (getD ws k 0))
-      (λ k l. ⊎-elim (λ w. omega (arith, w .1, gate-open {a = jobAt p k .deadline} {b = p .slots} (getD ws k 0) (ok .ends k l))) (λ w. omega (arith, w .1)) (gate-case (jobAt p k .deadline) e (getD ws k 0)))
+  due-end e = go (decLe e (p .slots))
+    where
+      go : Dec (e ≤ p .slots) → due p ws e ≤ due p ws (p .slots)
+      go (yes q) = due-later e (p .slots) q
+      go (no q) = omega (arith, due-quiet (p .slots) (suc e) e (λ k l d. absurd (omega (arith, ok .ends k l))) (omega arith) (omega arith))
 
   -- at the end of an interval, its remaining work more
   due-step : (a b : ℕ) → Quiet p a b → a < b → due p ws b ≡ due p ws a + remaining b (jobsOf p) ws
   unfolding dueBy
   due-step a b quiet h =
-      total-same (p .jobs) (λ k. gate (jobAt p k .deadline) b (getD ws k 0)) (λ k. gate (jobAt p k .deadline) a (getD ws k 0) + at (jobAt p k .deadline) b (getD ws k 0)) (λ k m. each k m (decLe (jobAt p k .deadline) a) (ℕ-discrete (jobAt p k .deadline) b))
-      ∙ omega (arith, total-add (p .jobs) (λ k. gate (jobAt p k .deadline) a (getD ws k 0)) (λ k. at (jobAt p k .deadline) b (getD ws k 0)), remaining-jobs b)
-    where
-      each : (k : ℕ) → k < p .jobs → Dec (jobAt p k .deadline ≤ a) → Dec (jobAt p k .deadline ≡ b) → gate (jobAt p k .deadline) b (getD ws k 0) ≡ gate (jobAt p k .deadline) a (getD ws k 0) + at (jobAt p k .deadline) b (getD ws k 0)
-      each k m (yes q) e = omega (arith, gate-open {a = jobAt p k .deadline} {b = b} (getD ws k 0) (omega arith), gate-open (getD ws k 0) q, at-no (jobAt p k .deadline) b (getD ws k 0) (λ f. omega arith))
-      each k m (no q) (yes e) = omega (arith, gate-open {a = jobAt p k .deadline} {b = b} (getD ws k 0) (omega arith), gate-shut {a = jobAt p k .deadline} {b = a} (getD ws k 0) (omega arith), at-yes (jobAt p k .deadline) b (getD ws k 0) e)
-      each k m (no q) (no e) =
-          let l = quiet k m (omega arith) in
-          omega (arith, gate-shut {a = jobAt p k .deadline} {b = b} (getD ws k 0) (omega arith), gate-shut {a = jobAt p k .deadline} {b = a} (getD ws k 0) (omega arith), at-no (jobAt p k .deadline) b (getD ws k 0) e)
+      total-same (p .jobs) (dueOf b) (λ k. dueOf a k + at (jobAt p k .deadline) b (getD ws k 0)) (λ k m. gate-step (jobAt p k .deadline) a b (getD ws k 0) h (quiet k m))
+      ∙ omega (arith, total-add (p .jobs) (dueOf a) (λ k. at (jobAt p k .deadline) b (getD ws k 0)), remaining-jobs b)
 
   -- ---- S1: the closed form
   module _ (t : ℕ) where
@@ -213,7 +228,7 @@ module _ (p : Plan) (ok : InOrder p) (ws : List ℕ) where
         -- nothing is due by t
         due-past : due p ws t ≡ 0
         unfolding dueBy
-        due-past = total-none (p .jobs) (λ k. gate (jobAt p k .deadline) t (getD ws k 0)) (λ k m. ⊎-elim (λ w. omega (arith, w .1, ahead k m (w .0))) (λ w. w .1) (gate-case (jobAt p k .deadline) t (getD ws k 0)))
+        due-past = total-none (p .jobs) (dueOf t) (λ k m. ⊎-elim (λ w. omega (arith, w .1, ahead k m (w .0))) (λ w. w .1) (gate-case (jobAt p k .deadline) t (getD ws k 0)))
 
         -- nor before the end of the current interval
         due-none : (b c : ℕ) → Quiet p t b → c < b → due p ws c ≡ 0

@@ -7,9 +7,8 @@ use mathlib.Core.Logic.{_⊎_, inl, inr, ⊎-elim}
 use mathlib.Core.Bool.{Bool, true, false}
 use borrow.Author.Tests.{ltb-true, lt-ltb}
 use Rattle.words.specs.Words.{_<?_}
-use Rattle.windows.specs.Sums.{gate}
 use Rattle.windows.specs.SumLaws.{total-mono, total-none, gate-shut, gate-case, gate-mono, gate-none}
-use Rattle.windows.specs.Windows.{dueBy, within, InTime, Feasible, NoMore}
+use Rattle.windows.specs.Windows.{dueAt, dueBy, insideAt, within, InTime, Feasible, NoMore}
 use Rattle.windows.specs.WindowLaws.{due-less, in-time-mono, within-mono}
 use Rattle.windows.specs.SlotLaws.{given-none}
 use Rattle.plan.specs.declared.Job.{Job}
@@ -69,7 +68,7 @@ module _ (p : Plan) where
       where
         go : Dec (p .slots ≤ t) → dueBy (windowsOf p) (asked p t) e ≤ e - t
         go (no q) = a2 t (omega arith) e
-        go (yes q) = omega (arith, total-none (p .jobs) (λ k. gate (jobAt p k .deadline) e (asked p t k)) (λ k l. gate-none (jobAt p k .deadline) e (asked p t k) (asked-over t k l q)))
+        go (yes q) = omega (arith, total-none (p .jobs) (dueAt (windowsOf p) (asked p t) e) (λ k l. gate-none (jobAt p k .deadline) e (asked p t k) (asked-over t k l q)))
 
     -- work that is at most what may be asked at border t is in time
     pub asked-in-time : A2 p → (t : ℕ) (left : ℕ → ℕ) → NoMore (windowsOf p) left (asked p t) → InTime (windowsOf p) t left
@@ -102,19 +101,19 @@ module _ (p : Plan) where
     -- the work released at a or later and due by b may be asked at border a
     pub within-asked : (a b : ℕ) → within (windowsOf p) (hiOf p) a b ≤ dueBy (windowsOf p) (asked p a) b
     unfolding within dueBy hiOf
-    within-asked a b = total-mono (p .jobs) (λ k. gate a (jobAt p k .release) (gate (jobAt p k .deadline) b (hiOf p k))) (λ k. gate (jobAt p k .deadline) b (asked p a k)) each
+    within-asked a b = total-mono (p .jobs) (insideAt (windowsOf p) (hiOf p) a b) (dueAt (windowsOf p) (asked p a) b) each
       where
         high : (k : ℕ) → k < p .jobs → a ≤ jobAt p k .release → hiOf p k ≤ asked p a k
         high k l r =
             let z = tab-none a k l r in
             ⊎-elim (λ w. omega (arith, w .2, ok .some k l, asked-high a k (w .1) (omega (arith, ok .some k l)))) (λ w. omega arith) (hi-left-case (jobAt p k) true 0)
 
-        each : (k : ℕ) → k < p .jobs → gate a (jobAt p k .release) (gate (jobAt p k .deadline) b (hiOf p k)) ≤ gate (jobAt p k .deadline) b (asked p a k)
+        each : (k : ℕ) → k < p .jobs → insideAt (windowsOf p) (hiOf p) a b k ≤ dueAt (windowsOf p) (asked p a) b k
         each k l =
             ⊎-elim
             (λ w. omega (arith, w .1, gate-mono (jobAt p k .deadline) b (hiOf p k) (asked p a k) (high k l (w .0))))
             (λ w. omega arith)
-            (gate-case a (jobAt p k .release) (gate (jobAt p k .deadline) b (hiOf p k)))
+            (gate-case a (jobAt p k .release) (dueAt (windowsOf p) (hiOf p) b k))
 
     -- so A1 follows from A2
     pub a1-of-a2 : A2 p → A1 p
@@ -131,10 +130,10 @@ module _ (p : Plan) where
         go : Dec (jobAt p j .deadline ≤ e) → dueBy (windowsOf p) left′ e ≤ e - (t + 1)
         go (yes q) = let n = now e in omega (arith, due-less (windowsOf p) left left′ fewer j l one e q)
         go (no q) =
-            let m = total-mono (p .jobs) (λ k. gate (jobAt p k .deadline) e (left′ k)) (λ k. gate (jobAt p k .deadline) e (asked p (t + 1) k)) (λ k h. each k h (ℕ-discrete k j)) in
+            let m = total-mono (p .jobs) (dueAt (windowsOf p) left′ e) (dueAt (windowsOf p) (asked p (t + 1)) e) (λ k h. each k h (ℕ-discrete k j)) in
             let n = a2-all a2 (t + 1) e in
             omega arith
           where
-            each : (k : ℕ) → k < p .jobs → Dec (k ≡ j) → gate (jobAt p k .deadline) e (left′ k) ≤ gate (jobAt p k .deadline) e (asked p (t + 1) k)
+            each : (k : ℕ) → k < p .jobs → Dec (k ≡ j) → dueAt (windowsOf p) left′ e k ≤ dueAt (windowsOf p) (asked p (t + 1)) e k
             each k h (yes w) = rw w (omega (arith, gate-shut {a = jobAt p j .deadline} {b = e} (left′ j) (omega arith)))
             each k h (no w) = gate-mono (jobAt p k .deadline) e (left′ k) (asked p (t + 1) k) (others k h w)

@@ -1,4 +1,5 @@
--- Acceptance gives the order: at the first overrun what the HI jobs still need overfills no window, so the theory of windows lays out the coming slots, the earliest deadline first.
+-- Acceptance gives the order: at the first overrun what the HI jobs still need overfills no window,
+-- so the theory of windows lays out the coming slots, the earliest deadline first.
 use Prim.Native.Nat.{ℕ, zero, suc, _+_, _-_, _≤_, _<_, max, zero-le}
 use native.Mathlib.Decide.{decLe, decLt}
 use native.Mathlib.Numerals.{add-one}
@@ -88,7 +89,10 @@ module _ (p : Plan) (need : ℕ → ℕ) where
           fewer k l = ⊎-elim (λ w. omega (arith, w .1, still-high s k (w .0), tab-mono p k s (s + 1) (omega arith))) (λ w. omega arith) (still-case (s + 1) k)
 
           one : still (s + 1) (o .who) + 1 ≤ still s (o .who)
-          one = rw (add-one s) (omega (arith, still-high (suc s) (o .who) (o .high), still-high s (o .who) (o .high), o .last, o .more, tab-last p (o .who) s, same-yes (tableAt p s) (suc (o .who)) (o .named)))
+          one =
+              rw (add-one s)
+              (let had = same-yes (tableAt p s) (suc (o .who)) (o .named) in
+              omega (arith, still-high (suc s) (o .who) (o .high), still-high s (o .who) (o .high), o .last, o .more, tab-last p (o .who) s))
 
           others : (k : ℕ) → k < p .jobs → (k ≡ o .who → ⊥) → still (s + 1) k ≤ asked p (s + 1) k
           others k l q = rw (add-one s)

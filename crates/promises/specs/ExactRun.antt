@@ -23,16 +23,20 @@ use Rattle.acceptance_promise.specs.CountLaws.{naming-window, tab-start, tab-la
 use Rattle.promises.specs.Demands.{JobOf, inWindow}
 use Rattle.promises.specs.Hopeless.{tableRun, OverrunsAt}
 
--- the first number with a property that can be tested, or none up to m has it
-pub first-of : (P : ℕ → Type 0) → ((t : ℕ) → Dec (P t)) → (m : ℕ) → ((t : ℕ) × P t × ((u : ℕ) → u < t → P u → ⊥)) ⊎ ((u : ℕ) → u ≤ m → P u → ⊥)
+-- the first number with a property, or none up to m has it
+abbrev pub First : (ℕ → Type 0) → ℕ → Type 0
+First P m = ((t : ℕ) × P t × ((u : ℕ) → u < t → P u → ⊥)) ⊎ ((u : ℕ) → u ≤ m → P u → ⊥)
+
+-- it can be found where the property can be tested
+pub first-of : (P : ℕ → Type 0) → ((t : ℕ) → Dec (P t)) → (m : ℕ) → First P m
 first-of P dec zero = go (dec 0)
   where
-    go : Dec (P 0) → ((t : ℕ) × P t × ((u : ℕ) → u < t → P u → ⊥)) ⊎ ((u : ℕ) → u ≤ 0 → P u → ⊥)
+    go : Dec (P 0) → First P 0
     go (yes h) = inl (0, h, λ u l. absurd (not-suc-le-zero l))
     go (no q) = inr (λ u l h. let e : u ≡ 0 = omega arith in q (rw e at h))
 first-of P dec (suc m) = go (first-of P dec m) (dec (suc m))
   where
-    go : ((t : ℕ) × P t × ((u : ℕ) → u < t → P u → ⊥)) ⊎ ((u : ℕ) → u ≤ m → P u → ⊥) → Dec (P (suc m)) → ((t : ℕ) × P t × ((u : ℕ) → u < t → P u → ⊥)) ⊎ ((u : ℕ) → u ≤ suc m → P u → ⊥)
+    go : First P m → Dec (P (suc m)) → First P (suc m)
     go (inl w) d = inl w
     go (inr n) (yes h) = inl (suc m, h, λ u l. n u (omega arith))
     go (inr n) (no q) = inr (λ u l h. below u l h (decLe u m))
@@ -69,14 +73,17 @@ module _ (p : Plan) (need : ℕ → ℕ) where
       here : who t ≡ tableRun p need t
       here = agrees t (omega arith)
 
-      go : Dec (tableAt p t ≡ suc k) → Dec (suc (tab p k t) ≤ need (suc k)) → given who (suc k) 0 t ≡ min (need (suc k)) (tab p k t) → given who (suc k) 0 (suc t) ≡ min (need (suc k)) (tab p k (suc t))
+      go : Dec (tableAt p t ≡ suc k) → Dec (suc (tab p k t) ≤ need (suc k)) → given who (suc k) 0 t ≡ min (need (suc k)) (tab p k t)
+          → given who (suc k) 0 (suc t) ≡ min (need (suc k)) (tab p k (suc t))
       go (yes e) (yes q) r =
           let h : who t ≡ suc k = here ∙ rw (e, lt-ltb (tab p k t) (need (suc k)) q) in
           omega (arith, given-last who (suc k) 0 t zero-le, tab-last p k t, same-yes (who t) (suc k) h, same-yes (tableAt p t) (suc k) e)
       go (yes e) (no q) r =
           let h : who t ≡ 0 = here ∙ rw (e, le-ltb (tab p k t) (need (suc k)) (omega arith)) in
           omega (arith, given-last who (suc k) 0 t zero-le, tab-last p k t, same-no (who t) (suc k) (λ w. omega arith), same-yes (tableAt p t) (suc k) e)
-      go (no e) q r = omega (arith, given-last who (suc k) 0 t zero-le, tab-last p k t, same-no (who t) (suc k) (λ w. e (run-names t k (sym here ∙ w))), same-no (tableAt p t) (suc k) e)
+      go (no e) q r =
+          let f : who t ≡ suc k → ⊥ = (λ w. e (run-names t k (sym here ∙ w))) in
+          omega (arith, given-last who (suc k) 0 t zero-le, tab-last p k t, same-no (who t) (suc k) f, same-no (tableAt p t) (suc k) e)
 
   -- ---- overruns, by the place of the job
   pub record Overrun (t : ℕ) : Type 0 where
@@ -133,7 +140,8 @@ module _ (p : Plan) (need : ℕ → ℕ) where
       same : (k : ℕ) → tableAt p s ≡ suc k → (o : Overrun (suc s)) → o .who ≡ k
       same k e o = let n : tableAt p s ≡ suc (o .who) = rw (at o) at (o .named) in omega arith
 
-      tests : (k : ℕ) → tableAt p s ≡ suc k → Dec (suc s ≤ p .slots) → Dec (suc k ≤ p .jobs) → (b : Bool) → isHi (jobAt p k) ≡ b → Dec (tab p k (suc s) ≡ jobAt p k .lo) → Dec (suc (jobAt p k .lo) ≤ need (suc k)) → Dec (Overrun (suc s))
+      tests : (k : ℕ) → tableAt p s ≡ suc k → Dec (suc s ≤ p .slots) → Dec (suc k ≤ p .jobs) → (b : Bool) → isHi (jobAt p k) ≡ b
+          → Dec (tab p k (suc s) ≡ jobAt p k .lo) → Dec (suc (jobAt p k .lo) ≤ need (suc k)) → Dec (Overrun (suc s))
       tests k e (yes a) (yes b) true h (yes f) (yes m) = yes (record { who = k; slot = s; border = refl; inside = a; there = b; named = e; high = h; last = f; more = m })
       tests k e (no a) b h i f m = no (λ o. a (rw (at o) at (o .inside)))
       tests k e (yes a) (no b) h i f m = no (λ o. b (rw (same k e o) at (o .there)))
@@ -143,10 +151,13 @@ module _ (p : Plan) (need : ℕ → ℕ) where
 
       go : (x : ℕ) → tableAt p s ≡ x → Dec (Overrun (suc s))
       go zero e = no (λ o. let n : tableAt p s ≡ suc (o .who) = rw (at o) at (o .named) in omega arith)
-      go (suc k) e = tests k e (decLe (suc s) (p .slots)) (decLe (suc k) (p .jobs)) (isHi (jobAt p k)) refl (ℕ-discrete (tab p k (suc s)) (jobAt p k .lo)) (decLe (suc (jobAt p k .lo)) (need (suc k)))
+      go (suc k) e =
+          tests k e (decLe (suc s) (p .slots)) (decLe (suc k) (p .jobs)) (isHi (jobAt p k)) refl
+          (ℕ-discrete (tab p k (suc s)) (jobAt p k .lo)) (decLe (suc (jobAt p k .lo)) (need (suc k)))
 
   -- a HI job that needs more than lo overruns at its lo-th table slot
-  pub overruns-by : InOrder p → (k t : ℕ) → k < p .jobs → isHi (jobAt p k) ≡ true → jobAt p k .lo < need (suc k) → t ≤ p .slots → jobAt p k .lo ≤ tab p k t → (u : ℕ) × (u ≤ t) × Overrun u
+  pub overruns-by : InOrder p → (k t : ℕ) → k < p .jobs → isHi (jobAt p k) ≡ true → jobAt p k .lo < need (suc k) → t ≤ p .slots → jobAt p k .lo ≤ tab p k t
+      → (u : ℕ) × (u ≤ t) × Overrun u
   overruns-by ok k t l h m b full =
       let r = tab-reach p k t (jobAt p k .lo) (ok .some k l) full in
       (suc (r .0), r .1, record { who = k; slot = r .0; border = refl; inside = omega (arith, r .1); there = l; named = r .2; high = h; last = r .3; more = m })

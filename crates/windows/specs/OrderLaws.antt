@@ -9,18 +9,22 @@ use borrow.Author.Tests.{eq-eqb, ne-eqb}
 use Rattle.words.specs.Words.{if_then_else_, _=?_}
 use Rattle.windows.specs.Sums.{total, gate, same}
 use Rattle.windows.specs.SumLaws.{total-mono, gate-open, gate-case, gate-none, same-yes, same-no}
-use Rattle.windows.specs.Windows.{Windows, dueBy, within, Feasible, Ready}
+use Rattle.windows.specs.Windows.{Windows, dueAt, dueBy, insideAt, within, Feasible, Ready}
 use Rattle.windows.specs.WindowLaws.{met, earliest-keeps, nobody-keeps}
 use Rattle.windows.specs.Orders.{given, ServedBy, Order}
 use Rattle.windows.specs.SlotLaws.{given-empty, given-wider, given-from, given-agree, counting}
 
 -- ---- who is next: a ready job of the earliest deadline, or nobody is ready
 module _ (w : Windows) (t : ℕ) (left : ℕ → ℕ) where
+  -- place i, if it is ready, is due no earlier than place k
+  abbrev Behind : ℕ → ℕ → Type 0
+  Behind k i = Ready w t left i → w .deadline k ≤ w .deadline i
+
   -- of the places below n, k is ready and has the earliest deadline
   record Next (n k : ℕ) : Type 0 where
     there : k < n
     ready : Ready w t left k
-    first : (i : ℕ) → i < n → Ready w t left i → w .deadline k ≤ w .deadline i
+    first : (i : ℕ) → i < n → Behind k i
 
   -- none of the places below n is ready
   abbrev NoneReady : ℕ → Type 0
@@ -49,15 +53,13 @@ module _ (w : Windows) (t : ℕ) (left : ℕ → ℕ) where
   next (suc n) = go (next n) (ready? n)
     where
       both : (k : ℕ) → Next n k → Ready w t left n → Dec (w .deadline k ≤ w .deadline n) → (k : ℕ) × Next (suc n) k
-      both k c r (yes q) = (k, record { there = omega (arith, c .there); ready = c .ready; first = each (λ i. Ready w t left i → w .deadline k ≤ w .deadline i) n (c .first) (λ _. q) })
-      both k c r (no q) =
-          (n, record { there = omega arith; ready = r; first = each (λ i. Ready w t left i → w .deadline n ≤ w .deadline i) n (λ i l h. omega (arith, c .first i l h)) (λ _. omega arith) })
+      both k c r (yes q) = (k, record { there = omega (arith, c .there); ready = c .ready; first = each (Behind k) n (c .first) (λ _. q) })
+      both k c r (no q) = (n, record { there = omega arith; ready = r; first = each (Behind n) n (λ i l h. omega (arith, c .first i l h)) (λ _. omega arith) })
 
       go : ((k : ℕ) × Next n k) ⊎ NoneReady n → Dec (Ready w t left n) → ((k : ℕ) × Next (suc n) k) ⊎ NoneReady (suc n)
       go (inl c) (yes r) = inl (both (c .0) (c .1) r (decLe (w .deadline (c .0)) (w .deadline n)))
-      go (inl c) (no r) =
-          inl (c .0, record { there = omega (arith, c .1 .there); ready = c .1 .ready; first = each (λ i. Ready w t left i → w .deadline (c .0) ≤ w .deadline i) n (c .1 .first) (λ h. absurd (r h)) })
-      go (inr none) (yes r) = inl (n, record { there = omega arith; ready = r; first = each (λ i. Ready w t left i → w .deadline n ≤ w .deadline i) n (λ i l h. absurd (none i l h)) (λ _. omega arith) })
+      go (inl c) (no r) = inl (c .0, record { there = omega (arith, c .1 .there); ready = c .1 .ready; first = each (Behind (c .0)) n (c .1 .first) (λ h. absurd (r h)) })
+      go (inr none) (yes r) = inl (n, record { there = omega arith; ready = r; first = each (Behind n) n (λ i l h. absurd (none i l h)) (λ _. omega arith) })
       go (inr none) (no r) = inr (each (λ i. Ready w t left i → ⊥) n none r)
 
 -- ---- W7: the order, slot after slot
@@ -84,6 +86,10 @@ at-then t x who k r d =
     let a = given-agree (at t x who) who k (max r (t + 1)) d (λ s l m. at-other t x who s (λ e. omega arith)) in
     omega arith
 
+-- nothing behind two gates
+two-gates : (a b c d n : ℕ) → n ≡ 0 → gate a b (gate c d n) ≡ 0
+two-gates a b c d n z = gate-none a b (gate c d n) (gate-none c d n z)
+
 module _ (w : Windows) where
   -- slot t to nobody
   idle-then : (t : ℕ) (left : ℕ → ℕ) → Order w (t + 1) left → Order w t left
@@ -101,7 +107,7 @@ module _ (w : Windows) where
           omega (
             arith,
             at-then t 0 (o .who) (suc k) (w .release k) (w .deadline k),
-            gate-none (w .release k) t (gate (t + 1) (w .deadline k) (same 0 (suc k))) (gate-none (t + 1) (w .deadline k) (same 0 (suc k)) (same-no 0 (suc k) (λ e. omega arith))),
+            two-gates (w .release k) t (t + 1) (w .deadline k) (same 0 (suc k)) (same-no 0 (suc k) (λ e. omega arith)),
             o .serves k l,
           )
 
@@ -127,7 +133,11 @@ module _ (w : Windows) where
           later : given (o .who) (suc k) (max (w .release k) (t + 1)) (w .deadline k) ≡ left k - same k j
           later = o .serves k l
 
-          slot : given (at t (suc j) (o .who)) (suc k) (max (w .release k) t) (w .deadline k) ≡ gate (w .release k) t (gate (t + 1) (w .deadline k) (same (suc j) (suc k))) + given (o .who) (suc k) (max (w .release k) (t + 1)) (w .deadline k)
+          -- 1 where slot t is its own
+          own : ℕ
+          own = gate (w .release k) t (gate (t + 1) (w .deadline k) (same (suc j) (suc k)))
+
+          slot : given (at t (suc j) (o .who)) (suc k) (max (w .release k) t) (w .deadline k) ≡ own + given (o .who) (suc k) (max (w .release k) (t + 1)) (w .deadline k)
           slot = at-then t (suc j) (o .who) (suc k) (w .release k) (w .deadline k)
 
           go : Dec (k ≡ j) → given (at t (suc j) (o .who)) (suc k) (max (w .release k) t) (w .deadline k) ≡ left k
@@ -137,7 +147,7 @@ module _ (w : Windows) where
                 slot,
                 later,
                 same-no k j q,
-                gate-none (w .release k) t (gate (t + 1) (w .deadline k) (same (suc j) (suc k))) (gate-none (t + 1) (w .deadline k) (same (suc j) (suc k)) (same-no (suc j) (suc k) (λ e. q (omega arith)))),
+                two-gates (w .release k) t (t + 1) (w .deadline k) (same (suc j) (suc k)) (same-no (suc j) (suc k) (λ e. q (omega arith))),
               )
           go (yes e) =
               let r : w .release k ≤ t = rw e (c .ready .0) in
@@ -179,21 +189,29 @@ module _ (w : Windows) where
   unfolding dueBy within
   order-shows t left who enough = (in-time, windows)
     where
-      in-time : (e : ℕ) → total (w .count) (λ k. gate (w .deadline k) e (left k)) ≤ e - t
+      in-time : (e : ℕ) → total (w .count) (dueAt w left e) ≤ e - t
       in-time e =
-          let m = total-mono (w .count) (λ k. gate (w .deadline k) e (left k)) (λ k. given who (suc k) t e)
-          (λ k l. ⊎-elim (λ v. omega (arith, enough k l, given-wider who (suc k) (max (w .release k) t) (w .deadline k) t e (omega arith) (v .0))) (λ v. omega arith) (gate-case (w .deadline k) e (left k))) in
+          let m = total-mono (w .count) (dueAt w left e) (λ k. given who (suc k) t e)
+          (λ k l.
+          ⊎-elim
+          (λ v. omega (arith, enough k l, given-wider who (suc k) (max (w .release k) t) (w .deadline k) t e (omega arith) (v .0)))
+          (λ v. omega arith)
+          (gate-case (w .deadline k) e (left k))) in
           omega (arith, counting who (w .count) t e)
 
-      windows : (a b : ℕ) → t < a → total (w .count) (λ k. gate a (w .release k) (gate (w .deadline k) b (left k))) ≤ b - a
+      windows : (a b : ℕ) → t < a → total (w .count) (insideAt w left a b) ≤ b - a
       windows a b h =
-          let m = total-mono (w .count) (λ k. gate a (w .release k) (gate (w .deadline k) b (left k))) (λ k. given who (suc k) a b) (λ k l. inside k l) in
+          let m = total-mono (w .count) (insideAt w left a b) (λ k. given who (suc k) a b) (λ k l. inside k l) in
           omega (arith, counting who (w .count) a b)
         where
-          inside : (k : ℕ) → k < w .count → gate a (w .release k) (gate (w .deadline k) b (left k)) ≤ given who (suc k) a b
+          inside : (k : ℕ) → k < w .count → insideAt w left a b k ≤ given who (suc k) a b
           inside k l =
               ⊎-elim
-              (λ u. ⊎-elim (λ v. omega (arith, enough k l, given-wider who (suc k) (max (w .release k) t) (w .deadline k) a b (omega (arith, u .0)) (v .0))) (λ v. omega arith) (gate-case (w .deadline k) b (left k)))
+              (λ u.
+              ⊎-elim
+              (λ v. omega (arith, enough k l, given-wider who (suc k) (max (w .release k) t) (w .deadline k) a b (omega (arith, u .0)) (v .0)))
+              (λ v. omega arith)
+              (gate-case (w .deadline k) b (left k)))
               (λ u. omega arith)
               (gate-case a (w .release k) (gate (w .deadline k) b (left k)))
 

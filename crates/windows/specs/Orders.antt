@@ -1,4 +1,5 @@
--- Orders of slots: who has each slot, how many slots of a window are one job's, and the order that serves all work. Definitions only: SlotLaws and OrderLaws have the laws.
+-- Orders of slots: who has each slot, how many slots of a window are one job's, and the order that serves all work.
+-- Definitions only: SlotLaws and OrderLaws have the laws.
 use Prim.Native.Nat.{ℕ, zero, suc, _+_, _≤_, _<_, max}
 use mathlib.Core.Path.{_≡_}
 use Rattle.windows.specs.Sums.{gate, same}

@@ -3,40 +3,47 @@ use Prim.Native.Nat.{ℕ, _+_, _-_, _≤_, _<_}
 use native.Mathlib.Decide.{decLe}
 use native.Mathlib.Omega.{arith}
 use mathlib.Core.Path.{_≡_}
-use Rattle.windows.specs.Sums.{gate}
 use Rattle.windows.specs.SumLaws.{total-mono, total-less, total-member, gate-open, gate-shut, gate-mono}
-use Rattle.windows.specs.Windows.{Windows, dueBy, within, InTime, Feasible, NoMore, Ready}
+use Rattle.windows.specs.Windows.{Windows, dueAt, dueBy, insideAt, within, InTime, Feasible, NoMore, Ready}
 
 module _ (w : Windows) where
+  -- less work, place by place
+  due-at-mono : (left left′ : ℕ → ℕ) → NoMore w left′ left → (e k : ℕ) → k < w .count → dueAt w left′ e k ≤ dueAt w left e k
+  due-at-mono left left′ fewer e k h = gate-mono (w .deadline k) e (left′ k) (left k) (fewer k h)
+
+  inside-at-mono : (left left′ : ℕ → ℕ) → NoMore w left′ left → (a b k : ℕ) → k < w .count → insideAt w left′ a b k ≤ insideAt w left a b k
+  inside-at-mono left left′ fewer a b k h = gate-mono a (w .release k) (dueAt w left′ b k) (dueAt w left b k) (due-at-mono left left′ fewer b k h)
+
   -- ---- W1: one slot less
   -- the work due by e has fallen by one, where the one with less is due by e
-  pub due-less : (left left′ : ℕ → ℕ) → NoMore w left′ left → (j : ℕ) → j < w .count → left′ j + 1 ≤ left j → (e : ℕ) → w .deadline j ≤ e → dueBy w left′ e + 1 ≤ dueBy w left e
+  pub due-less : (left left′ : ℕ → ℕ) → NoMore w left′ left → (j : ℕ) → j < w .count → left′ j + 1 ≤ left j
+      → (e : ℕ) → w .deadline j ≤ e → dueBy w left′ e + 1 ≤ dueBy w left e
   unfolding dueBy
   due-less left left′ fewer j l one e d =
-      total-less (w .count) (λ k. gate (w .deadline k) e (left′ k)) (λ k. gate (w .deadline k) e (left k)) (λ k h. gate-mono (w .deadline k) e (left′ k) (left k) (fewer k h)) j l
+      total-less (w .count) (dueAt w left′ e) (dueAt w left e) (due-at-mono left left′ fewer e) j l
       (omega (arith, gate-open (left′ j) d, gate-open (left j) d))
 
   -- and so has the work within a window, where its window lies in that one
-  pub within-less : (left left′ : ℕ → ℕ) → NoMore w left′ left → (j : ℕ) → j < w .count → left′ j + 1 ≤ left j → (a b : ℕ) → a ≤ w .release j → w .deadline j ≤ b → within w left′ a b + 1 ≤ within w left a b
+  pub within-less : (left left′ : ℕ → ℕ) → NoMore w left′ left → (j : ℕ) → j < w .count → left′ j + 1 ≤ left j
+      → (a b : ℕ) → a ≤ w .release j → w .deadline j ≤ b → within w left′ a b + 1 ≤ within w left a b
   unfolding within
   within-less left left′ fewer j l one a b r d =
-      total-less (w .count) (λ k. gate a (w .release k) (gate (w .deadline k) b (left′ k))) (λ k. gate a (w .release k) (gate (w .deadline k) b (left k)))
-      (λ k h. gate-mono a (w .release k) (gate (w .deadline k) b (left′ k)) (gate (w .deadline k) b (left k)) (gate-mono (w .deadline k) b (left′ k) (left k) (fewer k h))) j l
-      (omega (arith, gate-open {a = a} {b = w .release j} (gate (w .deadline j) b (left′ j)) r, gate-open {a = a} {b = w .release j} (gate (w .deadline j) b (left j)) r, gate-open (left′ j) d, gate-open (left j) d))
+      total-less (w .count) (insideAt w left′ a b) (insideAt w left a b) (inside-at-mono left left′ fewer a b) j l
+      (omega (arith, gate-open {b = w .release j} (dueAt w left′ b j) r, gate-open {b = w .release j} (dueAt w left b j) r, gate-open (left′ j) d, gate-open (left j) d))
 
   -- ---- W2: less work
   -- of less work no more is due
   pub due-mono : (left left′ : ℕ → ℕ) → NoMore w left′ left → (e : ℕ) → dueBy w left′ e ≤ dueBy w left e
   unfolding dueBy
   due-mono left left′ fewer e =
-      total-mono (w .count) (λ k. gate (w .deadline k) e (left′ k)) (λ k. gate (w .deadline k) e (left k)) (λ k h. gate-mono (w .deadline k) e (left′ k) (left k) (fewer k h))
+      total-mono (w .count) (dueAt w left′ e) (dueAt w left e) (due-at-mono left left′ fewer e)
 
   -- and no more lies within a window
   pub within-mono : (left left′ : ℕ → ℕ) → NoMore w left′ left → (a b : ℕ) → within w left′ a b ≤ within w left a b
   unfolding within
   within-mono left left′ fewer a b =
-      total-mono (w .count) (λ k. gate a (w .release k) (gate (w .deadline k) b (left′ k))) (λ k. gate a (w .release k) (gate (w .deadline k) b (left k)))
-      (λ k h. gate-mono a (w .release k) (gate (w .deadline k) b (left′ k)) (gate (w .deadline k) b (left k)) (gate-mono (w .deadline k) b (left′ k) (left k) (fewer k h)))
+      total-mono (w .count) (insideAt w left′ a b) (insideAt w left a b)
+      (inside-at-mono left left′ fewer a b)
 
   -- so less work is in time where more is
   pub in-time-mono : (t : ℕ) (left left′ : ℕ → ℕ) → NoMore w left′ left → InTime w t left → InTime w t left′
@@ -50,7 +57,7 @@ module _ (w : Windows) where
   pub met : (t : ℕ) (left : ℕ → ℕ) → InTime w t left → (k : ℕ) → k < w .count → w .deadline k ≤ t → left k ≡ 0
   unfolding dueBy
   met t left now k l h =
-      let m = total-member (w .count) (λ i. gate (w .deadline i) t (left i)) k l in
+      let m = total-member (w .count) (dueAt w left t) k l in
       let n = now t in
       omega (arith, gate-open (left k) h)
 
@@ -64,16 +71,17 @@ module _ (w : Windows) where
     not-ready : (e : ℕ) → ((k : ℕ) → k < w .count → w .release k ≤ t → w .deadline k ≤ e → left k ≡ 0) → dueBy w left′ e ≤ e - (t + 1)
     unfolding dueBy within
     not-ready e none =
-        let m = total-mono (w .count) (λ k. gate (w .deadline k) e (left′ k)) (λ k. gate (t + 1) (w .release k) (gate (w .deadline k) e (left k))) (λ k l. each k l (decLe (w .release k) t) (decLe (w .deadline k) e)) in
+        let m = total-mono (w .count) (dueAt w left′ e) (insideAt w left (t + 1) e) (λ k l. each k l (decLe (w .release k) t) (decLe (w .deadline k) e)) in
         omega (arith, now .1 (t + 1) e (omega arith))
       where
-        each : (k : ℕ) → k < w .count → Dec (w .release k ≤ t) → Dec (w .deadline k ≤ e) → gate (w .deadline k) e (left′ k) ≤ gate (t + 1) (w .release k) (gate (w .deadline k) e (left k))
+        each : (k : ℕ) → k < w .count → Dec (w .release k ≤ t) → Dec (w .deadline k ≤ e) → dueAt w left′ e k ≤ insideAt w left (t + 1) e k
         each k l r (no q) = omega (arith, gate-shut {a = w .deadline k} {b = e} (left′ k) (omega arith))
         each k l (yes r) (yes q) = omega (arith, gate-open (left′ k) q, none k l r q, fewer k l)
-        each k l (no r) (yes q) = omega (arith, gate-mono (w .deadline k) e (left′ k) (left k) (fewer k l), gate-open {a = t + 1} {b = w .release k} (gate (w .deadline k) e (left k)) (omega arith))
+        each k l (no r) (yes q) = omega (arith, due-at-mono left left′ fewer e k l, gate-open {a = t + 1} {b = w .release k} (dueAt w left e k) (omega arith))
 
     -- W4: slot t to a ready job of the earliest deadline
-    pub earliest-keeps : (j : ℕ) → j < w .count → left′ j + 1 ≤ left j → ((k : ℕ) → k < w .count → Ready w t left k → w .deadline j ≤ w .deadline k) → Feasible w (t + 1) left′
+    pub earliest-keeps : (j : ℕ) → j < w .count → left′ j + 1 ≤ left j
+        → ((k : ℕ) → k < w .count → Ready w t left k → w .deadline j ≤ w .deadline k) → Feasible w (t + 1) left′
     earliest-keeps j l one first = feasible-next (λ e. go e (decLe (w .deadline j) e))
       where
         go : (e : ℕ) → Dec (w .deadline j ≤ e) → dueBy w left′ e ≤ e - (t + 1)

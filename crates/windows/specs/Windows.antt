@@ -9,12 +9,18 @@ pub record Windows : Type 0 where
   pub deadline : ℕ → ℕ
 
 -- the work due by border e, where `left k` slots of work are left at place k
+abbrev pub dueAt : Windows → (ℕ → ℕ) → ℕ → ℕ → ℕ
+dueAt w left e k = gate (w .deadline k) e (left k)
+
 unfoldable pub dueBy : Windows → (ℕ → ℕ) → ℕ → ℕ
-dueBy w left e = total (w .count) (λ k. gate (w .deadline k) e (left k))
+dueBy w left e = total (w .count) (dueAt w left e)
 
 -- the work that is released at a or later and due by b
+abbrev pub insideAt : Windows → (ℕ → ℕ) → ℕ → ℕ → ℕ → ℕ
+insideAt w left a b k = gate a (w .release k) (gate (w .deadline k) b (left k))
+
 unfoldable pub within : Windows → (ℕ → ℕ) → ℕ → ℕ → ℕ
-within w left a b = total (w .count) (λ k. gate a (w .release k) (gate (w .deadline k) b (left k)))
+within w left a b = total (w .count) (insideAt w left a b)
 
 -- from border t on there is room for the work due by each border e; so nothing is left of what was due by t
 abbrev pub InTime : Windows → ℕ → (ℕ → ℕ) → Type 0
