@@ -50,6 +50,7 @@ hi-member {j} (i ∷ js) (List·Memᴰ·tail m) h = go (isHi i) (hi-member js m 
 abbrev hiInside : ℕ → ℕ → Job → ℕ
 hiInside a b j = if isHi j && (a ≤? j .release) && (j .deadline ≤? b) then j .hi else 0
 
+-- the same as work behind gates
 hi-inside : (j : Job) (a b : ℕ) → hiInside a b j ≡ gate a (j .release) (gate (j .deadline) b (hiLeft j true 0))
 unfolding hiLeft
 hi-inside j a b = go (isHi j) refl (decLe a (j .release)) (decLe (j .deadline) b)

@@ -94,6 +94,7 @@ module _ (p : Plan) (longJob : length (p .job) ≡ maxJobs) (longTable : length 
     six : accepted (check6 p) ≡ true
     seven : accepted (check7 p) ≡ true
 
+  -- so all pass
   all-passed : Passed
   unfolding wellFormed
   all-passed =
@@ -104,17 +105,21 @@ module _ (p : Plan) (longJob : length (p .job) ≡ maxJobs) (longTable : length 
       let e = both-accept (check6 p) (check7 p) (d .1) in
       record { two = a .0; three = b .0; four = c .0; five = d .0; six = e .0; seven = e .1 }
 
+  -- check 2
   slot-limit : (1 ≤ p .slots) × (p .slots ≤ maxSlots)
   unfolding check2 accepted
   slot-limit = within-limit maxSlots (p .slots) (unless-holds SlotLimit (oneTo maxSlots (p .slots)) refl (all-passed .two))
 
+  -- check 3
   job-limit : (1 ≤ p .jobs) × (p .jobs ≤ maxJobs)
   unfolding check3 accepted
   job-limit = within-limit maxJobs (p .jobs) (unless-holds JobLimit (oneTo maxJobs (p .jobs)) refl (all-passed .three))
 
+  -- so the list of the first n jobs has n
   long-jobs : length (jobsOf p) ≡ p .jobs
   long-jobs = length-take-le (p .jobs) (p .job) (omega (arith, job-limit))
 
+  -- check 4
   windows : (k : ℕ) → k < p .jobs → (jobAt p k .release < jobAt p k .deadline) × (jobAt p k .deadline ≤ p .slots)
   unfolding check4 accepted
   windows k l =
@@ -122,6 +127,7 @@ module _ (p : Plan) (longJob : length (p .job) ≡ maxJobs) (longTable : length 
       let w = unless-holds (Window (1 + k)) (windowHolds (p .slots) (getD (jobsOf p) k blankJob)) refl h in
       window-says (p .slots) (jobAt p k) (rw (among-jobs p k l) at w)
 
+  -- check 5
   budgets : (k : ℕ) → k < p .jobs → (1 ≤ jobAt p k .lo) × (jobAt p k .lo ≤ jobAt p k .hi) × (isHi (jobAt p k) ≡ false → jobAt p k .lo ≡ jobAt p k .hi)
   unfolding check5 accepted
   budgets k l =
@@ -129,6 +135,7 @@ module _ (p : Plan) (longJob : length (p .job) ≡ maxJobs) (longTable : length 
       let w = unless-holds (Budget (1 + k)) (budgetHolds (p .slots) (getD (jobsOf p) k blankJob)) refl h in
       budget-says (p .slots) (jobAt p k) (rw (among-jobs p k l) at w)
 
+  -- check 6
   names : (s : ℕ) → s < p .slots → (k : ℕ) → tableAt p s ≡ suc k → (k < p .jobs) × (jobAt p k .release ≤ s) × (s < jobAt p k .deadline)
   unfolding check6 accepted
   names s l k e =
@@ -138,6 +145,7 @@ module _ (p : Plan) (longJob : length (p .job) ≡ maxJobs) (longTable : length 
       let q : getD (slotsOf p) s 0 ≡ suc k = getD-take (p .slots) (p .table) s 0 l ∙ e in
       slot-says p s k (rw q at w)
 
+  -- check 7
   full : (k : ℕ) → k < p .jobs → naming (suc k) (slotsOf p) ≡ jobAt p k .lo
   unfolding check7 accepted
   full k l =

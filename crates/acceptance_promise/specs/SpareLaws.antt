@@ -27,22 +27,27 @@ use Rattle.acceptance_promise.specs.ChainLaws.{intervals-chain}
 use Rattle.acceptance_promise.specs.Spares.{due, Least}
 
 -- ---- signs of differences
+-- not below 0
 pub is-not-below : {z : ℤ} {p m : ℕ} → Is z p m → below0 z ≡ false → m ≤ p
 is-not-below {z = pos n} h t = omega arith
 is-not-below {z = negsuc n} h t = absurd (let z : _≡_ {A = ℕ} 0 1 = cc in omega arith)
 
+-- below 0
 pub is-below : {z : ℤ} {p m : ℕ} → Is z p m → below0 z ≡ true → p < m
 is-below {z = pos n} h t = absurd (let z : _≡_ {A = ℕ} 0 1 = cc in omega arith)
 is-below {z = negsuc n} h t = omega arith
 
+-- and a difference that is not below 0
 pub not-below-is : {z : ℤ} {p m : ℕ} → Is z p m → m ≤ p → below0 z ≡ false
 not-below-is {z = pos n} h l = refl
 not-below-is {z = negsuc n} h l = absurd (omega arith)
 
+-- above 0
 pub is-above : {z : ℤ} {p m : ℕ} → Is z p m → above0 z ≡ true → m < p
 is-above {z = pos n} h t = let l = ltb-true 0 n t in omega arith
 is-above {z = negsuc n} h t = absurd (let z : _≡_ {A = ℕ} 0 1 = cc in omega arith)
 
+-- and a difference that is above 0
 pub above-is : {z : ℤ} {p m : ℕ} → Is z p m → m < p → above0 z ≡ true
 above-is {z = pos n} h l = lt-ltb 0 n (omega arith)
 above-is {z = negsuc n} h l = absurd (omega arith)
@@ -61,14 +66,17 @@ getD-filled z (x ∷ xs) n (suc i) = getD-filled z xs n i
 unfoldable at : ℕ → ℕ → ℕ → ℕ
 at d e n = if d =? e then n else 0
 
+-- it is n
 at-yes : (d e n : ℕ) → d ≡ e → at d e n ≡ n
 unfolding at
 at-yes d e n q = rw (eq-eqb d e q)
 
+-- it is 0
 at-no : (d e n : ℕ) → (d ≡ e → ⊥) → at d e n ≡ 0
 unfolding at
 at-no d e n q = rw (ne-eqb d e q)
 
+-- of nothing it is nothing
 at-none : (d e n : ℕ) → n ≡ 0 → at d e n ≡ 0
 at-none d e n z = go (ℕ-discrete d e)
   where

@@ -36,10 +36,12 @@ first-accepted judge each k (x ∷ xs) h =
     let b = both-accept (judge k x) (firstRefusal judge (suc k) xs) h in
     rw (b .0) (first-accepted judge each (suc k) xs (b .1))
 
+-- of a rule with a refusal
 unless-accepted : (refusal : Answer) (holds : Bool) → accepted refusal ≡ false → accepted (refusal unless holds) ≡ true → (refusal unless holds) ≡ Accepted
 unless-accepted refusal true r h = refl
 unless-accepted refusal false r h = absurd (never h r)
 
+-- of acceptance: its last check decides
 acceptance-accepted : (p : Plan) → accepted (acceptance p) ≡ true → acceptance p ≡ Accepted
 unfolding acceptance check9 accepted
 acceptance-accepted p h =

@@ -31,6 +31,7 @@ module _ (p : Plan) (need : ℕ → ℕ) where
   unfoldable still : ℕ → ℕ → ℕ
   still t k = if isHi (jobAt p k) then need (suc k) - tab p k t else 0
 
+  -- of a HI job
   still-high : (t k : ℕ) → isHi (jobAt p k) ≡ true → still t k ≡ need (suc k) - tab p k t
   unfolding still
   still-high t k h = rw h
@@ -45,6 +46,7 @@ module _ (p : Plan) (need : ℕ → ℕ) where
       go false e = inr (rw e)
 
   module _ (ok : InOrder p) (needs : Needs p need) where
+    -- no need is above hi
     need-le : (k : ℕ) → k < p .jobs → need (suc k) ≤ jobAt p k .hi
     need-le k l = rw (job-no p k) at (needs (suc k) (omega arith, l))
 
@@ -62,6 +64,7 @@ module _ (p : Plan) (need : ℕ → ℕ) where
     still-small t k l = ⊎-elim (λ w. omega (arith, w .1, need-le k l, hi-left (jobAt p k) true 0 refl (w .0))) (λ w. omega arith) (still-case t k)
 
     module _ (t : ℕ) (first : FirstOverrun p need t) where
+      -- the overrun, by the place of its job
       o : Overrun p need t
       o = overrun-of p need t (first .0)
 
@@ -99,6 +102,7 @@ module _ (p : Plan) (need : ℕ → ℕ) where
               (let e : tab p k (suc s) ≡ tab p k s = omega (arith, tab-last p k s, same-no (tableAt p s) (suc k) (λ w. q (omega (arith, o .named)))) in
               still-asked (suc s) k l (λ high full. quiet k s (omega (arith, o .border)) l high (omega arith)))
 
+      -- it comes at N at the latest
       inside : t ≤ p .slots
       inside = omega (arith, o .border, o .inside)
 
@@ -107,10 +111,12 @@ module _ (p : Plan) (need : ℕ → ℕ) where
         unfoldable whole : ℕ → ℕ
         whole s = if s <? t then tableRun p need s else laid .who s
 
+        -- before t
         whole-before : (s : ℕ) → s < t → whole s ≡ tableRun p need s
         unfolding whole
         whole-before s l = rw (lt-ltb s t l)
 
+        -- from t on
         whole-from : (s : ℕ) → t ≤ s → whole s ≡ laid .who s
         unfolding whole
         whole-from s l = rw (le-ltb s t l)
@@ -140,14 +146,17 @@ module _ (p : Plan) (need : ℕ → ℕ) where
         order : List ℕ
         order = map whole (countUp 0 (p .slots))
 
+        -- it has N slots
         long : length order ≡ p .slots
         unfolding order
         long = length-map (countUp 0 (p .slots)) whole ∙ countUp-length 0 (p .slots)
 
+        -- slot s of it
         order-at : (s : ℕ) → s < p .slots → getD order s 0 ≡ whole s
         unfolding order
         order-at s l = let e : 0 + s ≡ s = omega arith in rw e at (countUp-at whole 0 0 (p .slots) s l)
 
+        -- it continues the table run, and serves
         order-serves : (JobsOnly p order) × Continues p need t order × Serves p need order
         order-serves = (λ s. named s (decLt s (p .slots)), (long, λ s l. order-at s (omega (arith, inside)) ∙ whole-before s l), serves)
           where

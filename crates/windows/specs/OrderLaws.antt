@@ -71,10 +71,12 @@ less left j k = left k - same k j
 unfoldable at : ℕ → ℕ → (ℕ → ℕ) → ℕ → ℕ
 at t x who s = if s =? t then x else who s
 
+-- at t
 at-here : (t x : ℕ) (who : ℕ → ℕ) → at t x who t ≡ x
 unfolding at
 at-here t x who = rw (eq-eqb t t refl)
 
+-- at any other slot
 at-other : (t x : ℕ) (who : ℕ → ℕ) (s : ℕ) → (s ≡ t → ⊥) → at t x who s ≡ who s
 unfolding at
 at-other t x who s q = rw (ne-eqb s t q)

@@ -66,10 +66,12 @@ total-last zero f = omega arith
 total-last (suc n) f = let r = total-last n (λ k. f (suc k)) in omega arith
 
 -- ---- gates
+-- an open gate lets n through
 pub gate-open : {a b : ℕ} (n : ℕ) → a ≤ b → gate a b n ≡ n
 unfolding gate
 gate-open {a} {b} n h = rw (le-leb a b h)
 
+-- a shut one nothing
 pub gate-shut : {a b : ℕ} (n : ℕ) → b < a → gate a b n ≡ 0
 unfolding gate
 gate-shut {a} {b} n h = rw (lt-leb a b h)
@@ -91,10 +93,12 @@ pub gate-none : (a b n : ℕ) → n ≡ 0 → gate a b n ≡ 0
 gate-none a b n z = ⊎-elim (λ w. omega arith) (λ w. w .1) (gate-case a b n)
 
 -- ---- one or nothing
+-- 1 where x is k
 pub same-yes : (x k : ℕ) → x ≡ k → same x k ≡ 1
 unfolding same
 same-yes x k e = rw (eq-eqb x k e)
 
+-- 0 where it is not
 pub same-no : (x k : ℕ) → (x ≡ k → ⊥) → same x k ≡ 0
 unfolding same
 same-no x k q = rw (ne-eqb x k q)

@@ -75,6 +75,7 @@ module _ (w : Windows) (left : ℕ → ℕ) (proper : (k : ℕ) → k < w .count
   abbrev Ends : ℕ → ℕ → Type 0
   Ends b k = (0 < left k) × (w .deadline k ≡ b)
 
+  -- both can be tested
   both? : (m n k : ℕ) → Dec (1 ≤ left k) → Dec (m ≡ n) → Dec ((0 < left k) × (m ≡ n))
   both? m n k (yes p) (yes q) = yes (p, q)
   both? m n k (yes p) (no q) = no (λ r. q (r .1))
