@@ -1,11 +1,15 @@
 -- Laws of the calls on a run, one for each way out: a refusal hands back what its definition says, an accepted call the rest.
-use Prim.Native.Nat.{ℕ, _≤_, _<_}
-use native.Mathlib.Omega.{arith}
+use Prim.Native.Nat.{ℕ, _<_}
 use mathlib.Core.Bool.{Bool, true, false}
 use mathlib.Core.Path.{_≡_, refl, sym, ap, _∙_}
 use borrow.Author.Tests.{ltb-true}
 use lib.Count.{ones}
 use Rattle.words.specs.Words.{_<?_, _=?_}
+use Rattle.plan.specs.declared.Plan.{Plan}
+use Rattle.intervals.specs.declared.Layout.{Layout}
+use Rattle.intervals.specs.Intervals.{intervals, past}
+use Rattle.intervals.specs.Layout.{layoutOf, pastIn}
+use Rattle.intervals.specs.LayoutLaws.{past-of-layout}
 use Rattle.answers.specs.declared.Answer.{Answer}
 use Rattle.answers.specs.declared.Answer.the-variants.{Accepted, Incoherent, Over, OtherSlot, WrongKind}
 use Rattle.answers.specs.Answer.{accepted, _unless_}
@@ -27,6 +31,10 @@ unfolding canGoOn accepted
 goes-on r p =
     let a = chain (Incoherent unless coherent r) (Over (r .t) unless (r .t <? r .plan .slots)) p in
     (rule Incoherent (coherent r) refl (a .0), ltb-true (r .t) (r .plan .slots) (rule (Over (r .t)) (r .t <? r .plan .slots) refl (a .1)))
+
+-- the place of the current interval, from the layout of the plan
+pub place-of-current : (p : Plan) (t : ℕ) (l : Layout) (place : ℕ) → l ≡ layoutOf p → place ≡ pastIn l t → place ≡ past t (intervals p)
+place-of-current p t l place el ep = ep ∙ ap (λ (x : Layout). pastIn x t) el ∙ past-of-layout p t
 
 -- 10, then 11
 module _ (r : Run) where

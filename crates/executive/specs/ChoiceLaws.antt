@@ -1,7 +1,7 @@
 -- Laws of the choice: the table's slot, any other slot of phase T, and the two lines of phase H, from what the code has worked out.
 use Prim.Native.Nat.{ℕ, _-_}
 use mathlib.Core.Bool.{Bool, true, false, not, _&&_}
-use mathlib.Core.Path.{_≡_, refl, sym, ap, _∙_}
+use mathlib.Core.Path.{_≡_, sym, ap, _∙_}
 use lib.IntN.{pos}
 use lib.ListN.{getD}
 use Rattle.words.specs.Words.{if_then_else_, _≤?_, below0, above0}

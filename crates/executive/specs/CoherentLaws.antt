@@ -1,19 +1,20 @@
 -- What a coherent run before its last border has: its steps are sound, and the chosen job's slots can be counted on.
 use Prim.Native.Nat.{ℕ, zero, suc, _+_, _-_, _≤_, _<_, zero-le}
-use native.Mathlib.Nat.{not-suc-le-zero, le-of-suc-le-suc, add-zero, add-suc}
+use native.Mathlib.Nat.{not-suc-le-zero, le-of-suc-le-suc, add-zero}
 use native.Mathlib.Omega.{arith}
 use mathlib.Core.Bool.{Bool, true, false, not, _&&_, _||_}
-use mathlib.Core.Path.{_≡_, refl, sym, ap, subst, _∙_}
+use mathlib.Core.Path.{_≡_, refl, sym, subst, _∙_}
 use mathlib.Core.List.{List, [], _∷_, zipWith}
-use lib.ListN.{length, take, getD}
+use lib.ListN.{length, getD}
 use lib.Seq.{length-take-le, getD-take}
 use borrow.Author.Tests.{leb-true, ltb-true, ne-eqb}
 use Rattle.words.specs.Words.{if_then_else_, _≤?_, _<?_, _=?_, below0, above0, every}
 use Rattle.answers.specs.declared.Answer.{Answer}
-use Rattle.answers.specs.declared.Answer.the-variants.{Accepted, SlotLimit, JobLimit, Budget, TableSlot}
-use Rattle.answers.specs.Answer.{accepted, numberOf, _unless_, _andThen_, firstRefusal}
+use Rattle.answers.specs.declared.Answer.the-variants.{SlotLimit, JobLimit, Budget, TableSlot}
+use Rattle.answers.specs.Answer.{accepted, _unless_, _andThen_, firstRefusal}
 use Rattle.plan.specs.declared.Job.{Job}
 use Rattle.plan.specs.declared.Plan.{Plan}
+use Rattle.plan.specs.Counts.{maxCount}
 use Rattle.plan.specs.Limits.{maxSlots, maxJobs, oneTo}
 use Rattle.plan.specs.Plan.{jobsOf, slotsOf, jobNo, tableAt, blankJob, isHi}
 use Rattle.plan.specs.Rules.{check2, check3, budgetHolds}
@@ -170,7 +171,7 @@ module _ (r : Run) (h : coherent r ≡ true) (before : r .t < r .plan .slots) (j
   sound = record { few = passes .jobs; border = (let s = passes .slots in omega arith); named = (let n = named in let m = passes .jobs in omega arith) }
 
   -- a live job can be given one slot more
-  live-countable : (i : ℕ) → i < r .plan .jobs → live (getD (r .job) i freshEntry) ≡ true → getD (r .job) i freshEntry .given < 65535
+  live-countable : (i : ℕ) → i < r .plan .jobs → live (getD (r .job) i freshEntry) ≡ true → getD (r .job) i freshEntry .given < maxCount
   unfolding entriesHold check5 accepted
   live-countable i l v =
       let few = passes .jobs in

@@ -1,6 +1,6 @@
 -- Laws of the ready set: built job by job, walked by its lowest member, counted by its ones.
-use Prim.Native.Nat.{ℕ, zero, suc, _+_, _-_, _*_, _/_, _%_, _^_, _≤_, _<_, zero-le}
-use native.Mathlib.Nat.{pow-suc, add-zero, add-suc, not-suc-le-zero, le-of-suc-le-suc}
+use Prim.Native.Nat.{ℕ, zero, suc, _+_, _-_, _*_, _/_, _%_, _^_, _≤_, _<_}
+use native.Mathlib.Nat.{pow-suc, add-zero, not-suc-le-zero, le-of-suc-le-suc}
 use native.Mathlib.Numerals.{add-one}
 use native.Mathlib.Omega.{arith}
 use mathlib.Core.Bool.{Bool, true, false, _||_}
@@ -9,8 +9,8 @@ use mathlib.Core.List.{List, [], _∷_, _++_}
 use lib.Bits.{bitOr, or-shifted-r}
 use lib.Count.{ones, ones-step, trailingZeros, under}
 use lib.Dec.{lit<}
-use lib.ListN.{length, take, getD, length-take}
-use lib.Pow.{shl-exact, pow-pos}
+use lib.ListN.{length, take, getD}
+use lib.Pow.{shl-exact}
 use lib.Seq.{take-suc, length-take-le}
 use borrow.Author.Tests.{eq-eqb, ne-eqb}
 use Rattle.plan.specs.declared.Job.{Job}

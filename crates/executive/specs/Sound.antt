@@ -1,6 +1,7 @@
 -- What the steps of a run rely on: facts that a coherent run before its last border has (CoherentLaws). No other use.
-use Prim.Native.Nat.{ℕ, _≤_, _<_}
+use Prim.Native.Nat.{_≤_, _<_}
 use Rattle.plan.specs.Limits.{maxSlots, maxJobs}
+use Rattle.plan.specs.Counts.{maxCount}
 use Rattle.plan.specs.Plan.{tableAt}
 use Rattle.executive.specs.declared.Run.{Run}
 use Rattle.executive.specs.declared.Slot.{Slot}
@@ -20,4 +21,4 @@ Listed (Slot.Job k) = k ≤ maxJobs
 -- and has not had so many slots that one more could not be counted
 abbrev pub Countable : Run → Slot → Type 0
 Countable r Slot.Idle = Unit {0}
-Countable r (Slot.Job k) = (k ≤ maxJobs) × (entryNo r k .given < 65535)
+Countable r (Slot.Job k) = (k ≤ maxJobs) × (entryNo r k .given < maxCount)

@@ -5,9 +5,9 @@ use native.Mathlib.Numerals.{add-one}
 use native.Mathlib.Omega.{arith}
 use mathlib.Core.Bool.{Bool, true, false}
 use mathlib.Core.Path.{_≡_, refl, ap, sym, _∙_}
-use mathlib.Core.List.{List, [], _∷_, _++_}
+use mathlib.Core.List.{List, [], _∷_}
 use lib.ListN.{length, take, drop, getD, set, replicate, drop-of-length-le}
-use lib.Seq.{take-suc, drop-cons, length-take-le, append-snoc, set-at}
+use lib.Seq.{take-suc, drop-cons, length-take-le, set-at}
 use Rattle.plan.specs.declared.Job.{Job}
 use Rattle.plan.specs.Plan.{blankJob}
 use Rattle.words.specs.Words.{if_then_else_, filled}

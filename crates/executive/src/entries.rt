@@ -3,6 +3,7 @@ ghost use mathlib.Core.Path.{_≡_};
 ghost use mathlib.Core.Bool.{_&&_};
 ghost use Prim.Native.Nat.{_<_};
 ghost use Rattle.words.specs.Words.{_≤?_};
+ghost use Rattle.plan.specs.Counts.{maxCount};
 ghost use Rattle.executive.specs.Run.{live};
 ghost use Rattle.executive.specs.Coherent.{standingHolds};
 ghost use Rattle.executive.specs.Step.{standingAfter, ranOn, expiredEntry, pastLo, settled, kindFits};
@@ -49,7 +50,7 @@ pub(crate) fn standing_after(
 
 // The entry of the job that ran: one slot more given.
 pub(crate) fn ran_on(kind: Kind, border: u16, j: Job, e: Entry) -> Entry
-    requires { ⌜ e .given < 65535 ⌝ }
+    requires { ⌜ e .given < maxCount ⌝ }
     ensures { λ r. ⌜ r ≡ ranOn kind border j e ⌝ }
 {
     let given = e.given + 1;

@@ -1,7 +1,7 @@
 // The ready jobs as one 32-bit set, job 1 at bit 0, and the earliest-deadline walk over it. Who gets the slot is in choosing.rt.
 ghost use mathlib.Core.Path.{_≡_};
 ghost use mathlib.Core.Bool.{_||_};
-ghost use Prim.Native.Nat.{_+_, _-_, _≤_, _<_};
+ghost use Prim.Native.Nat.{_-_, _≤_, _<_};
 ghost use Rattle.words.specs.Words.{if_then_else_, _=?_};
 ghost use Rattle.plan.specs.Limits.{maxJobs};
 ghost use Rattle.executive.specs.Choice.{goesBefore, setOf, earliest};

@@ -1,8 +1,7 @@
 -- `can_return` meets its contract. The invariant: the test from here on is the whole test.
-use Prim.Native.Nat.{_≤_, _-_, _<_, _+_, ℕ}
+use Prim.Native.Nat.{_≤_, _-_}
 use native.Mathlib.Omega.{arith}
-use mathlib.Core.Path.{_≡_, refl, sym, ap, _∙_}
-use mathlib.Core.List.{List}
+use mathlib.Core.Path.{_≡_, sym, ap, _∙_}
 use borrow.Author.Tests.{not-true, not-false}
 use lib.ListN.{length, take, drop}
 use Rattle.words.specs.ListLaws.{long}

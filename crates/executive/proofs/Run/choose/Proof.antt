@@ -1,17 +1,13 @@
 -- `choose` meets its contract: refused as the call is, otherwise the chosen slot and the ones of the ready set.
 use mathlib.Core.Bool.{true}
-use mathlib.Core.Path.{_≡_, sym, ap, _∙_}
+use mathlib.Core.Path.{_≡_}
 use Prim.Native.Nat.{_<_}
 use Rattle.words.specs.ListLaws.{long}
-use Rattle.intervals.specs.declared.Layout.{Layout}
-use Rattle.intervals.specs.Intervals.{intervals, past}
-use Rattle.intervals.specs.Layout.{pastIn}
-use Rattle.intervals.specs.LayoutLaws.{past-of-layout}
 use Rattle.executive.specs.Coherent.{coherent}
 use Rattle.executive.specs.Sound.{Sound}
 use borrow.Author.Tests.{not-true, not-false}
 use Rattle.executive.specs.CoherentLaws.{sound}
-use Rattle.executive.specs.CallLaws.{went-on, choice-refused, choice-made}
+use Rattle.executive.specs.CallLaws.{place-of-current, went-on, choice-refused, choice-made}
 use borrow.Author.Needs.{needs}
 use Rattle.executive.proofs.Run.choose.Statement.{statement}
 use Rattle.executive.proofs.Run.choose.Tie as tie
@@ -22,11 +18,6 @@ went c = went-on _ _ _ (c .before .before .can-go-on .ensures) (c .before .is-ac
 
 sound-run : (c : tie.Else1) → Sound (c .before .before .before .before .before .args .self)
 sound-run c = sound _ (went c .0) (went c .1) (search (needs, long)) (search needs) (search (needs, long))
-
-place : (c : tie.After-past-of) → let r = c .before .before .before .before .before .before .args .self in c .past-of .result ≡ past (r .t) (intervals (r .plan))
-place c =
-    let r = c .before .before .before .before .before .before .args .self in
-    c .past-of .ensures ∙ ap (λ (l : Layout). pastIn l (r .t)) (c .before .before .before .before .layout-of .ensures) ∙ past-of-layout (r .plan) (r .t)
 
 layout-of-requires : tie.Need-layout-of-requires
 layout-of-requires c κs = search needs
@@ -44,7 +35,7 @@ past-of-requires : tie.Need-past-of-requires
 past-of-requires c κs = search needs
 
 chosen-requires : tie.Need-chosen-requires
-chosen-requires c κs = (sound-run (c .before), place c)
+chosen-requires c κs = (sound-run (c .before), place-of-current _ _ _ _ (c .before .before .before .before .layout-of .ensures) (c .past-of .ensures))
 
 ready-set-requires : tie.Need-ready-set-requires
 ready-set-requires c κs = sound-run (c .before .before) .few

@@ -2,7 +2,7 @@
 use lib.ListN.{getD}
 use Prim.Native.Nat.{ℕ}
 use native.Mathlib.Omega.{arith}
-use mathlib.Core.Path.{_≡_, ap, _∙_}
+use mathlib.Core.Path.{_≡_, ap}
 use Rattle.words.specs.ListLaws.{long}
 use Rattle.executive.specs.ReadyLaws.{Full}
 use Rattle.executive.specs.ChoiceLaws.{table-slot, other-slot}

@@ -1,13 +1,11 @@
 -- `coherent_in` meets its contract: the clauses in order, each early return the first that fails.
 use Prim.Native.Nat.{_≤_}
-use mathlib.Core.Bool.{true, false}
+use mathlib.Core.Bool.{true}
 use mathlib.Core.Path.{_≡_, sym, ap, _∙_}
 use borrow.Author.Tests.{not-true, not-false, le-leb, lt-leb}
-use Rattle.words.specs.Words.{_≤?_}
 use Rattle.answers.specs.Answer.{accepted}
 use Rattle.plan.specs.Limits.{maxJobs}
 use Rattle.acceptance.specs.Acceptance.{wellFormed}
-use Rattle.executive.specs.Run.{freshHi, freshLo}
 use Rattle.executive.specs.Coherent.{entriesHold, sameRow, coherent}
 use Rattle.executive.specs.CoherentLaws.{few-jobs}
 use borrow.Author.Needs.{needs}

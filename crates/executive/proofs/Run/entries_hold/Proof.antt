@@ -1,5 +1,5 @@
 -- `entries_hold` meets its contract. The invariant: the test from here on is the whole test.
-use Prim.Native.Nat.{ℕ, _≤_, _-_, _<_, _+_}
+use Prim.Native.Nat.{ℕ, _≤_, _-_}
 use native.Mathlib.Omega.{arith}
 use mathlib.Core.Bool.{Bool}
 use mathlib.Core.List.{zipWith}

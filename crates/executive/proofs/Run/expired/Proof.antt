@@ -1,5 +1,5 @@
 -- `expired` meets its contract. The invariant: the entries of the jobs passed have met the border, the others are as they were.
-use Prim.Native.Nat.{_≤_, _-_, _<_, _+_, ℕ}
+use Prim.Native.Nat.{_≤_, _-_, _<_}
 use native.Mathlib.Omega.{arith}
 use mathlib.Core.Path.{_≡_, refl}
 use lib.ListN.{length, take}

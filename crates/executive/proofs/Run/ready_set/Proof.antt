@@ -1,10 +1,10 @@
 -- `ready_set` meets its contract. The invariant: the set holds the members among the jobs passed.
-use Prim.Native.Nat.{_+_, _*_, _%_, _^_, _≤_, _<_, _-_, ℕ}
+use Prim.Native.Nat.{_*_, _%_, _^_, _≤_, _<_, _-_, ℕ}
 use native.Mathlib.Omega.{arith}
 use mathlib.Core.Logic.{⊎-elim}
 use mathlib.Core.Path.{_≡_, refl, sym, ap, _∙_}
 use lib.Bits.{bitOr}
-use lib.ListN.{length, take, getD}
+use lib.ListN.{length, take}
 use lib.Seq.{take-all}
 use Rattle.words.specs.ListLaws.{long}
 use Rattle.plan.specs.Limits.{maxJobs}

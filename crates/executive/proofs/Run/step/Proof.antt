@@ -1,19 +1,14 @@
 -- `step` meets its contract: the refusals in their order hand back the same run, an accepted report the next run.
 use mathlib.Core.Bool.{true}
-use mathlib.Core.Path.{_≡_, sym, ap, _∙_}
+use mathlib.Core.Path.{_≡_, sym, _∙_}
 use Prim.Native.Nat.{_<_}
 use Rattle.words.specs.ListLaws.{long}
-use Rattle.intervals.specs.declared.Layout.{Layout}
-use Rattle.intervals.specs.Intervals.{intervals, past}
-use Rattle.intervals.specs.Layout.{pastIn}
-use Rattle.intervals.specs.LayoutLaws.{past-of-layout}
 use Rattle.executive.specs.Coherent.{coherent}
-use Rattle.executive.specs.Sound.{Sound}
 use borrow.Author.Tests.{not-true, not-false, eq-eqb, ne-eqb}
-use Rattle.executive.specs.Sound.{Countable}
+use Rattle.executive.specs.Sound.{Sound, Countable}
 use Rattle.executive.specs.Choice.{chosen}
 use Rattle.executive.specs.CoherentLaws.{sound, chosen-countable}
-use Rattle.executive.specs.CallLaws.{went-on, step-refused, other-refused, kind-refused, stepped}
+use Rattle.executive.specs.CallLaws.{place-of-current, went-on, step-refused, other-refused, kind-refused, stepped}
 use borrow.Author.Needs.{needs}
 use Rattle.executive.proofs.Run.step.Statement.{statement}
 use Rattle.executive.proofs.Run.step.Tie as tie
@@ -27,12 +22,6 @@ sound-run c = sound _ (went c .0) (went c .1) (search (needs, long)) (search nee
 
 countable : (c : tie.Else1) → let r = c .before .before .before .before .before .args .self in Countable r (chosen r)
 countable c = chosen-countable _ (went c .0) (went c .1) (search (needs, long)) (search needs) (search (needs, long))
-
-place : (c : tie.After-past-of) → let r = c .before .before .before .before .before .before .before .before .before .args .self in c .past-of .result ≡ past (r .t) (intervals (r .plan))
-place c =
-    let l = c .before .before .before .before .before .before .before in
-    let r = l .before .before .args .self in
-    c .past-of .ensures ∙ ap (λ (x : Layout). pastIn x (r .t)) (l .layout-of .ensures) ∙ past-of-layout (r .plan) (r .t)
 
 layout-of-requires : tie.Need-layout-of-requires
 layout-of-requires c κs = search needs
@@ -55,7 +44,9 @@ past-of-requires : tie.Need-past-of-requires
 past-of-requires c κs = search needs
 
 chosen-requires : tie.Need-chosen-requires
-chosen-requires c κs = (sound-run (c .before .before .before .before), place c)
+chosen-requires c κs =
+    let e = c .before .before .before .before in
+    (sound-run e, place-of-current _ _ _ _ (e .before .before .before .layout-of .ensures) (c .past-of .ensures))
 
 kind-fits-requires : tie.Need-kind-fits-requires
 kind-fits-requires c κs = search needs

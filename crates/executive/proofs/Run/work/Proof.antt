@@ -1,9 +1,9 @@
 -- `work` meets its contract. The invariant: the array begins with the work of the jobs passed and has 0 beyond.
-use Prim.Native.Nat.{_≤_, _-_, _<_, _+_, ℕ}
+use Prim.Native.Nat.{_≤_, _-_, ℕ}
 use native.Mathlib.Omega.{arith}
-use mathlib.Core.Path.{_≡_, refl, sym, ap, _∙_}
+use mathlib.Core.Path.{_≡_, refl, ap, _∙_}
 use mathlib.Core.List.{List}
-use lib.ListN.{length, take, set}
+use lib.ListN.{take, set}
 use lib.Seq.{take-all}
 use Rattle.words.specs.Words.{filled}
 use Rattle.words.specs.ListLaws.{long}

@@ -3,13 +3,14 @@ use mathlib.Core.Path.{_≡_}
 use native.Mathlib.Omega.{arith}
 use lib.IntN.{pos}
 use lib.ListN.{length, List·getD-eq-default}
+use Rattle.intervals.specs.Intervals.{maxIntervals}
 use borrow.Author.Needs.{needs}
 use Rattle.executive.proofs.choosing.is_above.Statement.{statement}
 use Rattle.executive.proofs.choosing.is_above.Tie as tie
 
 returns : tie.Need-returns
 returns c =
-    let l : length (c .before .args .t1) ≡ 65 = search needs in
+    let l : length (c .before .args .t1) ≡ maxIntervals = search needs in
     rw (List·getD-eq-default (c .before .args .t1) (pos 0) {n = c .before .args .place} (omega arith))
 
 mul-spare : tie.Need-mul-spare

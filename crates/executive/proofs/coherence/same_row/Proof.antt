@@ -1,7 +1,7 @@
 -- `same_row` meets its contract. The invariant: the comparison from here on is the whole one; two spares are the same when their bits are.
-use Prim.Native.Nat.{ℕ, _≤_, _-_, _<_, _+_, _^_}
+use Prim.Native.Nat.{ℕ, _≤_, _-_, _<_, _^_}
 use native.Mathlib.Omega.{arith}
-use mathlib.Core.Bool.{Bool, true, false}
+use mathlib.Core.Bool.{true, false}
 use mathlib.Core.List.{List, zipWith}
 use mathlib.Core.Path.{_≡_, refl, sym, ap, _∙_}
 use borrow.Author.Tests.{eq-eqb, ne-eqb}

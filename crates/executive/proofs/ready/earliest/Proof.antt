@@ -1,7 +1,7 @@
 -- `earliest` meets its contract. The invariant: the walk from the best so far over what is left is the whole walk. The measure is the set itself.
-use Prim.Native.Nat.{_+_, _*_, _%_, _^_, _≤_, _<_, _-_, ℕ}
+use Prim.Native.Nat.{_*_, _%_, _^_, _≤_, _<_, _-_}
 use native.Mathlib.Omega.{arith}
-use mathlib.Core.Path.{_≡_, refl, sym, ap, _∙_}
+use mathlib.Core.Path.{_≡_, refl, sym, _∙_}
 use lib.Count.{trailingZeros}
 use lib.Pow.{pow-pos}
 use Rattle.plan.specs.Limits.{maxJobs}

@@ -1,7 +1,7 @@
 -- `is_member` meets its contract: the tests of readiness, then the level where it is asked.
 use Prim.Native.Nat.{ℕ}
 use mathlib.Core.Bool.{Bool, true, false}
-use mathlib.Core.Path.{_≡_, refl, sym, _∙_}
+use mathlib.Core.Path.{_≡_, sym, _∙_}
 use borrow.Author.Tests.{not-true, not-false, le-leb, lt-leb}
 use Rattle.plan.specs.declared.Job.{Job}
 use Rattle.plan.specs.Plan.{isHi}
