@@ -118,6 +118,11 @@ endIn Stopped c s = []
 unfoldable pub endOutput : Console → List ℕ → List ℕ
 endOutput c s = endIn (c .stage) c s
 
+abbrev pub isStopped : Stage → Bool
+isStopped Reading = false
+isStopped Running = false
+isStopped Stopped = true
+
 -- ---- what the code writes into the lent output
 
 -- room for a line of each job
@@ -127,15 +132,18 @@ runRoom = maxJobs * longest
 abbrev pub turnOf : Event → Turn
 turnOf e = record { console = e .console; used = e .used; printed = length (e .printed); waiting = e .waiting }
 
--- a printed text stands at the start of the output; an output without room stays as it is
-unfoldable pub printedIn : List ℕ → List ℕ → List ℕ
-printedIn w d = if runRoom ≤? length d then put 0 w d else d
-
+-- without room nothing happens: the console waits, and the output stays as it is
 unfoldable pub nextTurn : Console → List ℕ → List ℕ → Turn
 nextTurn c s d = turnOf (if runRoom ≤? length d then event c s else waits c)
 
+unfoldable pub nextOut : Console → List ℕ → List ℕ → List ℕ
+nextOut c s d = if runRoom ≤? length d then put 0 (event c s .printed) d else d
+
 unfoldable pub endLength : Console → List ℕ → List ℕ → ℕ
 endLength c s d = if runRoom ≤? length d then length (endOutput c s) else 0
+
+unfoldable pub endWritten : Console → List ℕ → List ℕ → List ℕ
+endWritten c s d = if runRoom ≤? length d then put 0 (endOutput c s) d else d
 
 -- ---- the program
 

@@ -8,3 +8,5 @@ pub mod Reports
 pub mod Console
 pub mod LineLaws
 pub mod SessionLaws
+pub mod Lists
+pub mod Turns

@@ -5,7 +5,8 @@ use native.Mathlib.Decide.{decLt}
 use native.Mathlib.Omega.{arith}
 use mathlib.Core.Path.{_≡_, refl, sym, ap, _∙_}
 use mathlib.Core.List.{List, [], _∷_, _++_}
-use lib.ListN.{length, set, length-append}
+use lib.ListN.{length, set, take, length-append}
+use lib.Seq.{length-take-le}
 use Rattle.lines.specs.Lines.{digits}
 use Rattle.lines.specs.NumberLaws.{digits-one, digits-more}
 use Rattle.lines.specs.Writing.{put, putFit, placeAfter}
@@ -83,3 +84,14 @@ longest = 128
 -- a piece that is this text
 pub piece-is : {m at r : ℕ} {v w d e : List ℕ} → v ≡ w → Piece m at v d r e → Piece m at w d r e
 piece-is {m} {at} {r} {v} {w} {d} {e} q p = record { place = p .place ∙ ap (λ (x : List ℕ). at + length x) q; text = p .text ∙ ap (λ (x : List ℕ). put at x d) q; short = rw (← q) (p .short) }
+
+-- n counts bytes at the start of xs; the second part follows from the first, and is what a program that lends these bytes has to show
+abbrev pub CountsIn : ℕ → List ℕ → Type 0
+CountsIn n xs = (n ≤ length xs) × (n ≡ length (take n xs))
+
+pub counts-in : (n : ℕ) (xs : List ℕ) → n ≤ length xs → CountsIn n xs
+counts-in n xs h = (h, sym (length-take-le n xs h))
+
+-- a piece written at the start, with room for it
+pub piece-counts : {m r : ℕ} {w d e : List ℕ} → Piece m 0 w d r e → m ≤ length d → CountsIn r e
+piece-counts {m} {r} {w} {d} {e} p h = counts-in r e (omega (arith, p .place, p .short, piece-long p (omega arith)))

@@ -29,7 +29,7 @@ fn put_digits(out: &mut [u8], at: usize, n: usize) -> usize
 }
 
 // The key of a line.
-fn put_key(out: &mut [u8], at: usize, key: &[u8]) -> usize
+pub(crate) fn put_key(out: &mut [u8], at: usize, key: &[u8]) -> usize
     requires { ⌜ at + length (now key) ≤ length (now out) ⌝ }
     ensures { λ r. ⌜ Piece (length (now (key .entry))) at (now (key .entry)) (now (out .entry)) r (now (out .exit)) ⌝ }
 {
