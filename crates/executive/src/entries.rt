@@ -1,4 +1,4 @@
-// One job's entry: is it live, what a report makes of it, when it expires, whether it has settled. Whole runs are in step.rt.
+// One job's entry: is it live, what a report makes of it, when it expires, whether it has settled. Whole runs are in stepping.rt.
 ghost use mathlib.Core.Path.{_≡_};
 ghost use mathlib.Core.Bool.{_&&_};
 ghost use Prim.Native.Nat.{_<_};

@@ -1,9 +1,9 @@
 // The run of an accepted plan, slot by slot: start, coherence, choice, report, expiry, phase. Texts and programs are above.
 ghost use mathlib.Core.Path.{_≡_};
-ghost use Rattle.intervals.specs.Layout.{layoutOf};
-ghost use Rattle.executive.specs.Run.{freshEntry, blankRun, start};
 ghost use lib.ListN.{replicate};
 ghost use Rattle.plan.specs.Limits.{maxJobs};
+ghost use Rattle.intervals.specs.Layout.{layoutOf};
+ghost use Rattle.executive.specs.Run.{freshEntry, blankRun, start};
 ghost use Rattle.executive.specs.Coherent.{coherent};
 ghost use Rattle.executive.specs.Choice.{canGoOn, choose};
 ghost use Rattle.executive.specs.Step.{nextRun, step};
@@ -83,6 +83,17 @@ pub struct Stepped {
     pub run: Run,
 }
 
+// Every entry waiting with 0 given.
+fn fresh_entries() -> [Entry; plan::JOBS]
+    ensures { λ r. ⌜ r ≡ replicate maxJobs freshEntry ⌝ }
+{
+    let e = Entry {
+        standing: Standing::Waiting,
+        given: 0,
+    };
+    [e; plan::JOBS]
+}
+
 // What a refused start hands back: the blank plan at border 0, every entry waiting with 0 given.
 pub fn blank_run() -> Run
     ensures { λ r. ⌜ r ≡ blankRun ⌝ }
@@ -99,17 +110,6 @@ pub fn blank_run() -> Run
         lo: lo,
         job: job,
     }
-}
-
-// Every entry waiting with 0 given.
-fn fresh_entries() -> [Entry; plan::JOBS]
-    ensures { λ r. ⌜ r ≡ replicate maxJobs freshEntry ⌝ }
-{
-    let e = Entry {
-        standing: Standing::Waiting,
-        given: 0,
-    };
-    [e; plan::JOBS]
 }
 
 // A new run of an accepted plan, or the plan's refusal beside the blank run.
