@@ -18,6 +18,7 @@ use Rattle.intervals.specs.declared.Interval.{Interval}
 use Rattle.intervals.specs.Intervals.{maxIntervals}
 use Rattle.intervals.specs.Layout.{blankInterval}
 use Rattle.executive.specs.declared.Entry.{Entry}
+use Rattle.executive.specs.declared.Run.{Run}
 use Rattle.executive.specs.Run.{freshEntry}
 use Rattle.answers.specs.Answer.{accepted}
 use Rattle.plan_text.specs.declared.PlanRead.{PlanRead}
@@ -26,7 +27,7 @@ use Rattle.acceptance.specs.declared.Analysis.{Analysis}
 use Rattle.acceptance.specs.Analysis.{analysis}
 use Rattle.console.specs.Print.{refusedLine}
 use Rattle.console.specs.Check.{intervalLines, analysisLines, checkOutput}
-use Rattle.console.specs.Run.{jobLinesFrom}
+use Rattle.console.specs.Run.{jobLinesFrom, jobLines}
 use Rattle.console.specs.Pieces.{longest, CountsIn, counts-in, piece-counts, Piece, piece-within, piece-then, piece-is}
 use Rattle.console.specs.Printed.{intervalLine, jobLine}
 
@@ -96,6 +97,14 @@ listed-all n i k xs l e =
     by-less n k
     (λ h. let same : i ≡ n = omega arith in ap (λ (j : ℕ). take j xs) same)
     (λ h. taken-all i n xs (omega arith) (omega arith))
+
+pub jobs-none : (k : ℕ) (es : List Entry) → jobLinesFrom k (take 0 es) ≡ []
+unfolding jobLinesFrom
+jobs-none k es = refl
+
+pub jobs-listed : (r : Run) (i : ℕ) → length (r .job) ≡ 32 → i ≡ min (r .plan .jobs) 32 → jobLinesFrom 1 (take i (r .job)) ≡ jobLines r
+unfolding jobLines
+jobs-listed r i l e = ap (jobLinesFrom 1) (listed-all (r .plan .jobs) i 32 (r .job) l e)
 
 -- ---- the analysis
 

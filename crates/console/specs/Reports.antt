@@ -21,7 +21,7 @@ use Rattle.lines.specs.declared.reading.Number.{Number}
 use Rattle.lines.specs.declared.reading.Number.the-variants as Number
 use Rattle.lines.specs.Lines.{bytes, comma, sameBytes, number, Cursor, Read, got, refused, lineLength, lineOn, orForm, valueIn, field}
 use Rattle.lines.specs.Reading.{valueAt, numberRead}
-use Rattle.lines.specs.ReadingLaws.{value-there, value-none}
+use Rattle.lines.specs.ReadingLaws.{value-there, value-none, value-within}
 use Rattle.lines.specs.RoundLaws.{cursor}
 use Rattle.console.specs.declared.reports.KindName.{KindName}
 use Rattle.console.specs.declared.reports.KindName.the-variants as KindName
@@ -158,3 +158,12 @@ module _ (t : List ℕ) where
       pick : (o : Option Report) → ReportAt.Bad ≡ reportThen (suc (lineLength t)) (reportRead o) → orForm o (cursor l t) ≡ refused (Form l)
       pick (some x) e = absurd (let z : _≡_ {A = ℕ} 0 1 = cc in omega arith)
       pick none e = refl
+
+  -- the line is closed
+  pub report-within : (r : Report) (next : ℕ) → ReportAt.Got r next ≡ reportAt t → next ≤ length t
+  unfolding reportAt
+  report-within r next e = pick (valueIn reportIn (bytes "report=") t) refl e
+    where
+      pick : (o : Option Report) → valueIn reportIn (bytes "report=") t ≡ o → ReportAt.Got r next ≡ reportThen (suc (lineLength t)) (reportRead o) → next ≤ length t
+      pick (some x) p e = let q : next ≡ suc (lineLength t) = cc in omega (arith, value-within reportIn "report=" t 0 0 0 x p)
+      pick none p e = absurd (let z : _≡_ {A = ℕ} 0 1 = cc in omega arith)

@@ -65,6 +65,10 @@ module _ (r : Run) (report : Report) (h : accepted (step r report .answer) ≡ t
   unfolding step
   answered = by-test (accepted (reportAnswer r report)) (λ e. e) (λ e. rw e at h)
 
+  pub step-goes : accepted (canGoOn r) ≡ true
+  unfolding reportAnswer
+  step-goes = both-accept (canGoOn r) _ answered .0
+
   step-on : step r report .run .t ≡ r .t + 1
   unfolding step nextRun refreshed judged expired reported
   step-on = rw answered

@@ -1,5 +1,40 @@
 // The run program's console: a value that is handed the input piece by piece and says what is printed. Reading and writing are in run_plan.
+ghost use mathlib.Core.Path.{_≡_};
+ghost use mathlib.Core.Bool.{true};
+ghost use Prim.Native.Nat.{_+_, _*_, _≤_, min};
+ghost use lib.IntN.{pos};
+ghost use lib.ListN.{length, getD, take};
+ghost use Rattle.answers.specs.Answer.{accepted};
+ghost use Rattle.plan.specs.Limits.{maxJobs};
+ghost use Rattle.executive.specs.Choice.{canGoOn};
+ghost use Rattle.executive.specs.Run.{start};
+ghost use Rattle.executive.specs.Step.{step};
+ghost use Rattle.console.specs.Print.{refusedLine};
+ghost use Rattle.console.specs.Run.{jobNumber, stepLine, jobLines};
+ghost use Rattle.console.specs.Pieces.{Piece, longest, CountsIn};
+ghost use Rattle.console.specs.Console.{freshConsole, waits, refuses, startedEvent, planEvent, lineReady, lineAfter, steppedEvent, lineEvent, unreadOutput, endIn, isStopped, runRoom, turnOf, nextTurn, nextOut, endLength, endWritten};
+ghost use Rattle.console.specs.Turns.{Told};
+ghost use Rattle.console.specs.declared.run.Stage.the-variants.{Running};
+ghost use Rattle.plan_text.specs.Reader.{planPrefix};
+use crate::print::put_job_line;
+use crate::print::put_refused_line;
+use crate::print::put_step_line;
+use crate::reports::ReportAt;
+use crate::reports::report_field;
+use answers::Answer;
+use executive::Report;
 use executive::Run;
+use executive::Slot;
+use plan::Plan;
+
+// The room that one event's lines need at most: a line of each job.
+pub const RUN_ROOM: usize = 4096;
+
+// With so many bytes in hand a plan that is refused stays refused.
+const ENOUGH: usize = 6805;
+
+// No report line is longer.
+const LONGEST_REPORT: usize = 17;
 
 pub enum Stage {
     Reading,
@@ -20,4 +55,276 @@ pub struct Turn {
     pub used: usize,
     pub printed: usize,
     pub waiting: bool,
+}
+
+// Before any input.
+pub fn fresh_console() -> Console
+    ensures { λ r. ⌜ r ≡ freshConsole ⌝ }
+{
+    let run = executive::blank_run();
+    Console {
+        stage: Stage::Reading,
+        run: run,
+        line: 0,
+    }
+}
+
+// The console waits for more text.
+fn waiting(c: Console) -> Turn
+    ensures { λ r. ⌜ r ≡ turnOf (waits c) ⌝ }
+{
+    Turn {
+        console: c,
+        used: 0,
+        printed: 0,
+        waiting: true,
+    }
+}
+
+// A refusal is printed, and the console stops.
+fn refused(c: Console, answer: Answer, out: &mut [u8]) -> Turn
+    requires { ⌜ runRoom ≤ length (now out) ⌝ }
+    ensures { λ r. ⌜ Told (refuses c answer) (now (out .entry)) r (now (out .exit)) ⌝ }
+{
+    let printed = put_refused_line(out, 0, answer);
+    Turn {
+        console: Console {
+            stage: Stage::Stopped,
+            ..c
+        },
+        used: 0,
+        printed: printed,
+        waiting: false,
+    }
+}
+
+// The run of the plan that was read begins.
+fn begun(c: Console, plan: Plan, used: usize, line: u16, out: &mut [u8]) -> Turn
+    requires { ⌜ runRoom ≤ length (now out) ⌝ }
+    ensures { λ r. ⌜ Told (startedEvent c used line (start plan)) (now (out .entry)) r (now (out .exit)) ⌝ }
+{
+    let started = executive::start(plan);
+    let answer = started.answer;
+    if !answers::is_accepted(answer) {
+        return refused(c, answer, out);
+    }
+    let run = started.run;
+    Turn {
+        console: Console {
+            stage: Stage::Running,
+            run: run,
+            line: line,
+        },
+        used: used,
+        printed: 0,
+        waiting: false,
+    }
+}
+
+// The plan at the start of the text, once it is there or can no longer be completed.
+fn take_plan(c: Console, text: &[u8], out: &mut [u8]) -> Turn
+    requires { ⌜ runRoom ≤ length (now out) ⌝ }
+    ensures { λ r. ⌜ Told (planEvent c (now (text .entry))) (now (out .entry)) r (now (out .exit)) ⌝ }
+{
+    let prefix = plan_text::reader::plan_prefix(text);
+    let answer = prefix.answer;
+    if answers::is_accepted(answer) {
+        let plan = prefix.plan;
+        return begun(c, plan, prefix.next, prefix.line, out);
+    }
+    if text.len() < ENOUGH {
+        return waiting(c);
+    }
+    refused(c, answer, out)
+}
+
+// The first line's LF is in hand, or the line is too long to be of the form.
+fn line_ready(text: &[u8]) -> bool
+    ensures { λ r. ⌜ r ≡ lineReady (now (text .entry)) ⌝ }
+{
+    if lines::reading::line_end(text, 0) < text.len() {
+        return true;
+    }
+    LONGEST_REPORT <= text.len()
+}
+
+// The number of the line after this one.
+fn line_after(line: u16) -> u16
+    ensures { λ r. ⌜ r ≡ lineAfter line ⌝ }
+{
+    if line < 65535 { line + 1 } else { line }
+}
+
+fn job_number(slot: Slot) -> u16
+    ensures { λ r. ⌜ r ≡ jobNumber slot ⌝ }
+{
+    match slot {
+        Slot::Job(k) => k,
+        Slot::Idle => 0,
+    }
+}
+
+// The spare at a place of a row; beyond the row there is 0.
+fn spare_at(row: [i32; intervals::INTERVALS], place: usize) -> i32
+    ensures { λ r. ⌜ r ≡ getD row place (pos 0) ⌝ }
+{
+    if intervals::INTERVALS <= place {
+        return 0;
+    }
+    row[place]
+}
+
+// The step line of a run that can go on: what is chosen, the phase and the current spares before the slot.
+fn put_step(out: &mut [u8], run: Run) -> usize
+    requires { ⌜ (runRoom ≤ length (now out)) × (accepted (canGoOn run) ≡ true) ⌝ }
+    ensures { λ r. ⌜ Piece longest 0 (stepLine run) (now (out .entry)) r (now (out .exit)) ⌝ }
+{
+    let choice = run.choose();
+    let slot = choice.slot;
+    let job = job_number(slot);
+    let plan = run.plan;
+    let layout = intervals::layout_of(plan);
+    let place = intervals::past_of(layout, run.t);
+    let his = run.hi;
+    let hi = spare_at(his, place);
+    let los = run.lo;
+    let lo = spare_at(los, place);
+    let phase = run.phase;
+    put_step_line(out, 0, run.t, job, phase, hi, lo)
+}
+
+// A report is applied: the step line and the next run, or a refusal.
+fn stepped(c: Console, report: Report, used: usize, out: &mut [u8]) -> Turn
+    requires { ⌜ runRoom ≤ length (now out) ⌝ }
+    ensures { λ r. ⌜ Told (steppedEvent c used (step (c .run) report)) (now (out .entry)) r (now (out .exit)) ⌝ }
+{
+    let run = c.run;
+    let after = run.step(report);
+    let answer = after.answer;
+    if !answers::is_accepted(answer) {
+        return refused(c, answer, out);
+    }
+    let printed = put_step(out, run);
+    let next = after.run;
+    Turn {
+        console: Console {
+            stage: Stage::Running,
+            run: next,
+            line: line_after(c.line),
+        },
+        used: used,
+        printed: printed,
+        waiting: false,
+    }
+}
+
+// The report line at the start of the text, once it can be judged.
+fn take_line(c: Console, text: &[u8], out: &mut [u8]) -> Turn
+    requires { ⌜ runRoom ≤ length (now out) ⌝ }
+    ensures { λ r. ⌜ Told (lineEvent c (now (text .entry))) (now (out .entry)) r (now (out .exit)) ⌝ }
+{
+    if !line_ready(text) {
+        return waiting(c);
+    }
+    let ReportAt::Got(report, used) = report_field(text) else {
+        return refused(c, Answer::Form(c.line), out);
+    };
+    stepped(c, report, used, out)
+}
+
+// How many jobs the run has, for any plan record.
+fn listed_jobs(jobs: u16) -> usize
+    ensures { λ r. ⌜ r ≡ min jobs maxJobs ⌝ }
+{
+    let n = jobs as usize;
+    if n <= plan::JOBS { n } else { plan::JOBS }
+}
+
+// A line for each job, in order.
+fn put_job_lines(out: &mut [u8], run: Run) -> usize
+    requires { ⌜ runRoom ≤ length (now out) ⌝ }
+    ensures { λ r. ⌜ Piece runRoom 0 (jobLines run) (now (out .entry)) r (now (out .exit)) ⌝ }
+{
+    let count = listed_jobs(run.plan.jobs);
+    let job = run.job;
+    let mut at = 0;
+    let mut i = 0;
+    while i < count {
+        at = put_job_line(out, at, 1 + i, job[i]);
+        i += 1;
+    }
+    at
+}
+
+// The refusal of a plan that the input ends in; a plan that is complete has none.
+fn put_unread(out: &mut [u8], text: &[u8]) -> usize
+    requires { ⌜ runRoom ≤ length (now out) ⌝ }
+    ensures { λ r. ⌜ Piece runRoom 0 (unreadOutput (planPrefix (now (text .entry)))) (now (out .entry)) r (now (out .exit)) ⌝ }
+{
+    let prefix = plan_text::reader::plan_prefix(text);
+    let answer = prefix.answer;
+    if answers::is_accepted(answer) {
+        return 0;
+    }
+    put_refused_line(out, 0, answer)
+}
+
+// The job lines; a line that is not finished is bad.
+fn put_rest(out: &mut [u8], text: &[u8], c: Console) -> usize
+    requires { ⌜ runRoom ≤ length (now out) ⌝ }
+    ensures { λ r. ⌜ Piece runRoom 0 (endIn Running c (now (text .entry))) (now (out .entry)) r (now (out .exit)) ⌝ }
+{
+    if text.len() == 0 {
+        return put_job_lines(out, c.run);
+    }
+    put_refused_line(out, 0, Answer::Form(c.line))
+}
+
+impl Console {
+    // A refusal was printed: no more input is looked at.
+    pub fn is_stopped(self) -> bool
+        ensures { λ r. ⌜ r ≡ isStopped (self .stage) ⌝ }
+    {
+        let stage = self.stage;
+        match stage {
+            Stage::Reading => false,
+            Stage::Running => false,
+            Stage::Stopped => true,
+        }
+    }
+
+    // One event for the text in hand, which is all input that is not done with; what it prints is at the start of the output.
+    // An output with less than RUN_ROOM is left as it is, and the console waits.
+    pub fn next(self, text: &[u8], out: &mut [u8]) -> Turn
+        ensures { λ r. ⌜ r ≡ nextTurn self (now (text .entry)) (now (out .entry)) ⌝ }
+        ensures { λ _. ⌜ now (out .exit) ≡ nextOut self (now (text .entry)) (now (out .entry)) ⌝ }
+        ensures { λ r. ⌜ (r .used ≤ length (now (text .entry))) × CountsIn (r .printed) (now (out .exit)) ⌝ }
+    {
+        if out.len() < RUN_ROOM {
+            return waiting(self);
+        }
+        let stage = self.stage;
+        match stage {
+            Stage::Reading => take_plan(self, text, out),
+            Stage::Running => take_line(self, text, out),
+            Stage::Stopped => waiting(self),
+        }
+    }
+
+    // The end of input, with this text left. An output with less than RUN_ROOM is left as it is.
+    pub fn end(self, text: &[u8], out: &mut [u8]) -> usize
+        ensures { λ r. ⌜ r ≡ endLength self (now (text .entry)) (now (out .entry)) ⌝ }
+        ensures { λ _. ⌜ now (out .exit) ≡ endWritten self (now (text .entry)) (now (out .entry)) ⌝ }
+        ensures { λ r. ⌜ CountsIn r (now (out .exit)) ⌝ }
+    {
+        if out.len() < RUN_ROOM {
+            return 0;
+        }
+        let stage = self.stage;
+        match stage {
+            Stage::Reading => put_unread(out, text),
+            Stage::Running => put_rest(out, text, self),
+            Stage::Stopped => 0,
+        }
+    }
 }
