@@ -11,7 +11,8 @@ use crate::runtime::{kind_byte, Model, Runtime, ROOM};
 /// The side that is compared with the model: outputs of the two programs.
 pub trait Printed {
     fn check(&mut self, text: &[u8]) -> Vec<u8>;
-    fn run(&mut self, text: &[u8]) -> Vec<u8>;
+    /// None where the side has no such call.
+    fn run(&mut self, text: &[u8]) -> Option<Vec<u8>>;
     /// What else the side can be asked about an input; the call that it answered wrong.
     fn further(&mut self, _input: &Input) -> Option<&'static str> {
         None
@@ -36,9 +37,9 @@ impl<R: Runtime> Printed for Linked<'_, R> {
         self.room[..length].to_vec()
     }
 
-    fn run(&mut self, text: &[u8]) -> Vec<u8> {
-        let length = self.runtime.run(text, &mut self.room);
-        self.room[..length].to_vec()
+    fn run(&mut self, text: &[u8]) -> Option<Vec<u8>> {
+        let length = self.runtime.run(text, &mut self.room)?;
+        Some(self.room[..length].to_vec())
     }
 
     /// The calls that the speed table is made of: reader, writer, analysis, start and steps.
@@ -92,8 +93,8 @@ impl Printed for Programs<'_> {
         self.printed("check_plan", text)
     }
 
-    fn run(&mut self, text: &[u8]) -> Vec<u8> {
-        self.printed("run_plan", text)
+    fn run(&mut self, text: &[u8]) -> Option<Vec<u8>> {
+        Some(self.printed("run_plan", text))
     }
 }
 
@@ -105,7 +106,7 @@ pub fn compare(side: &mut impl Printed, seed: u64, count: usize) -> bool {
         let input = input(&mut rng);
         let (check, run) = (check_output(&input.check), run_output(&input.run));
         let same = same(index, "check", &input.check, &check, &side.check(&input.check))
-            && same(index, "run", &input.run, &run, &side.run(&input.run));
+            && side.run(&input.run).is_none_or(|other| same(index, "run", &input.run, &run, &other));
         if !same {
             return false;
         }

@@ -6,8 +6,10 @@ use crate::model::{self, analyse, read_plan, write_plan, Kind, Report, Run};
 pub trait Runtime {
     /// The check program's output for this input, at the start of `out`; its length.
     fn check(&self, text: &[u8], out: &mut [u8]) -> usize;
-    /// The run program's output for this input, at the start of `out`; its length.
-    fn run(&self, text: &[u8], out: &mut [u8]) -> usize;
+    /// The run program's output for this input, at the start of `out`; its length. Not every runtime has this call.
+    fn run(&self, _text: &[u8], _out: &mut [u8]) -> Option<usize> {
+        None
+    }
     /// Reads a plan; the answer's number.
     fn read(&self, text: &[u8]) -> u16;
     /// Reads a plan and writes it again; the bytes written, 0 for a refusal.
@@ -66,8 +68,8 @@ impl Runtime for Model {
         copied(model::check_output(text), out)
     }
 
-    fn run(&self, text: &[u8], out: &mut [u8]) -> usize {
-        copied(model::run_output(text), out)
+    fn run(&self, text: &[u8], out: &mut [u8]) -> Option<usize> {
+        Some(copied(model::run_output(text), out))
     }
 
     fn read(&self, text: &[u8]) -> u16 {

@@ -54,7 +54,7 @@ fn print_table(sides: [&dyn Runtime; 2], case: &Case) {
     }
 }
 
-fn rows(sides: [&dyn Runtime; 2], case: &Case) -> [(&'static str, Pair); 7] {
+fn rows(sides: [&dyn Runtime; 2], case: &Case) -> Vec<(&'static str, Pair)> {
     let mut out = vec![0; ROOM];
     let text = &case.text[..];
     let read = medians(sides, |side| side.read(black_box(text)).into());
@@ -63,16 +63,19 @@ fn rows(sides: [&dyn Runtime; 2], case: &Case) -> [(&'static str, Pair); 7] {
     let start = medians(sides, |side| side.walk(black_box(text), &[]).into());
     let walk = medians(sides, |side| side.walk(black_box(text), black_box(&case.kinds)).into());
     let check = medians(sides, |side| side.check(black_box(text), &mut out));
-    let run = medians(sides, |side| side.run(black_box(&case.input), &mut out));
-    [
+    let mut rows = vec![
         ("read", read),
         ("write", less(write, read)),
         ("analysis", less(analyse, read)),
         ("start", less(start, read)),
         ("step", less(walk, start).map(|time| time / case.kinds.len() as f64)),
         ("check program", check),
-        ("run program", run),
-    ]
+    ];
+    if sides.iter().all(|side| side.run(&case.input, &mut out).is_some()) {
+        let run = medians(sides, |side| side.run(black_box(&case.input), &mut out).unwrap_or(0));
+        rows.push(("run program", run));
+    }
+    rows
 }
 
 fn less([a, b]: Pair, [c, d]: Pair) -> Pair {

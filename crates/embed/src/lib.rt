@@ -6,6 +6,7 @@ ghost use Rattle.answers.specs.Answer.{numberOf};
 ghost use Rattle.plan_text.specs.Read.{readPlan};
 ghost use Rattle.plan_text.specs.Write.{writeAnswer, writeOut};
 ghost use Rattle.embed.specs.Embed.{bytesWritten, analysed, kindOf, walkFrom, walked};
+ghost use Rattle.console.specs.Lists.{checkLength, checkWritten};
 use answers::Answer;
 use executive::Kind;
 use executive::Report;
@@ -122,4 +123,14 @@ pub extern "C" fn embed_walk(text: &[u8], kinds: &[u8]) -> u16
     ensures { λ r. ⌜ r ≡ numberOf (walked (now (text .entry)) (now (kinds .entry))) ⌝ }
 {
     answers::number_of(walked(text, kinds))
+}
+
+// The check program's whole output for this input, at the start of `out`: its length. An output with less than
+// console::check::CHECK_ROOM is left as it was, and the answer is 0.
+#[no_mangle]
+pub extern "C" fn embed_check(text: &[u8], out: &mut [u8]) -> usize
+    ensures { λ r. ⌜ r ≡ checkLength (now (text .entry)) (now (out .entry)) ⌝ }
+    ensures { λ _. ⌜ now (out .exit) ≡ checkWritten (now (text .entry)) (now (out .entry)) ⌝ }
+{
+    console::check::check_output(text, out)
 }

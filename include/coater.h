@@ -1,0 +1,43 @@
+/* The proved runtime for a host program in C: link target/staticlib/libembed.a, which `rt staticlib embed` makes.
+ *
+ * Every text is answered. A plan's text is refused by a number, 1 to 9; 0 means accepted. A call keeps nothing for the
+ * next one, allocates nothing, and reads and writes only what it is lent. `text` and `out` must not overlap. */
+#ifndef COATER_H
+#define COATER_H
+
+#include <stddef.h>
+#include <stdint.h>
+
+#ifdef __cplusplus
+extern "C" {
+#endif
+
+/* The room that embed_check asks of `out`, and room for the text of every plan. */
+enum { COATER_CHECK_ROOM = 8448, COATER_PLAN_ROOM = 8192 };
+
+/* The kinds of report that embed_walk takes; any other byte is taken for COATER_MORE. */
+enum { COATER_NONE = 0, COATER_END = 1, COATER_MORE = 2 };
+
+/* Reads a plan. Answers 0, or the reader's refusal: 1 a line not of its form, 2 slots, 3 jobs. */
+uint16_t embed_read(const uint8_t *text, size_t length);
+
+/* Reads a plan and writes it again at the start of `out`. Answers the bytes written. Answers 0 and leaves `out` as it
+ * was where the reader refuses the text or it does not fit. */
+size_t embed_write(const uint8_t *text, size_t length, uint8_t *out, size_t room);
+
+/* Reads a plan and analyses it. Answers 0, or the first refusal: the reader's, or one of the checks 2 to 9. */
+uint16_t embed_analyse(const uint8_t *text, size_t length);
+
+/* Reads a plan, starts it, and reports once for each kind, each time for the slot whose turn it is. Answers 0, or the
+ * first refusal: as embed_analyse, then 11 a report after the last slot, 13 a kind that does not fit the slot. */
+uint16_t embed_walk(const uint8_t *text, size_t length, const uint8_t *kinds, size_t count);
+
+/* The check program: writes its whole output for this input at the start of `out` and answers its length. Answers 0
+ * and leaves `out` as it was where `room` is less than COATER_CHECK_ROOM. Bytes past the output stay as they were. */
+size_t embed_check(const uint8_t *text, size_t length, uint8_t *out, size_t room);
+
+#ifdef __cplusplus
+}
+#endif
+
+#endif
