@@ -23,7 +23,7 @@ use Rattle.intervals.specs.Intervals.{rising}
 use Rattle.intervals.specs.Spares.{hiLeft}
 use Rattle.acceptance.specs.Acceptance.{hiWithin, hiJobs, hiReleases, hiDeadlines, check8At, check8}
 use Rattle.acceptance_promise.specs.Promise.{jobAt, windowsOf, InOrder, hiOf, A1}
-use Rattle.acceptance_promise.specs.RefusalLaws.{either-true, neither-true, unless-holds, unless-fails, some-refused}
+use Rattle.answers.specs.RefusalLaws.{either-true, neither-true, unless-holds, unless-fails, some-refused}
 use Rattle.acceptance_promise.specs.InOrderLaws.{among-jobs, jobs-length, job-in}
 use Rattle.acceptance_promise.specs.MemberLaws.{member-map, rising-has, member-accepted}
 use Rattle.acceptance_promise.specs.TableLaws.{hi-left-case}

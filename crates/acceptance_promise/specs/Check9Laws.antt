@@ -9,7 +9,7 @@ use mathlib.Core.List.{List, [], _∷_, zipWith}
 use lib.ListN.{length, getD}
 use borrow.Author.Tests.{not-true, not-false}
 use Rattle.words.specs.Words.{_<?_, below0}
-use Rattle.words.specs.Cases.{by-test}
+use Rattle.words.specs.Cases.{by-test, never}
 use Rattle.answers.specs.declared.Answer.the-variants.{Overdrawn}
 use Rattle.answers.specs.Answer.{accepted, _unless_, _andThen_}
 use Rattle.windows.specs.Windows.{dueBy, within, InTime}
@@ -21,7 +21,7 @@ use Rattle.plan.specs.CountLaws.{counts-at, counts-length}
 use Rattle.intervals.specs.Spares.{hiLeft, row, current}
 use Rattle.acceptance.specs.Acceptance.{wellFormed, check8, alongTable, check9, acceptance}
 use Rattle.acceptance_promise.specs.Promise.{jobAt, windowsOf, tab, InOrder, hiOf, asked, A1, A2}
-use Rattle.acceptance_promise.specs.RefusalLaws.{never, both-accept, one-refused, unless-holds, unless-fails, each-accepted, some-refused}
+use Rattle.answers.specs.RefusalLaws.{both-accept, one-refused, unless-holds, unless-fails, each-accepted, some-refused}
 use Rattle.acceptance_promise.specs.InOrderLaws.{in-order, among-jobs, jobs-length, slots-length}
 use Rattle.acceptance_promise.specs.TableLaws.{asked-due}
 use Rattle.acceptance_promise.specs.SpareLaws.{not-below-exactly, below-shows}

@@ -19,16 +19,17 @@ use Rattle.plan.specs.Rules.{check2, check3, windowHolds, budgetHolds, windowsH
 use Rattle.acceptance.specs.Acceptance.{check4, check5, check6, check7, slotHolds, wellFormed}
 use Rattle.acceptance_promise.specs.Promise.{jobAt, InOrder}
 use Rattle.acceptance_promise.specs.MemberLaws.{member-at}
-use Rattle.acceptance_promise.specs.RefusalLaws.{never, both-true, either-true, unless-holds, both-accept, each-accepted}
+use Rattle.words.specs.Cases.{never, both-hold}
+use Rattle.answers.specs.RefusalLaws.{either-true, unless-holds, both-accept, each-accepted}
 
 -- 1 to the limit
 within-limit : (limit n : ℕ) → oneTo limit n ≡ true → (1 ≤ n) × (n ≤ limit)
-within-limit limit n h = let b = both-true (1 ≤? n) (n ≤? limit) h in (leb-true 1 n (b .0), leb-true n limit (b .1))
+within-limit limit n h = let b = both-hold (1 ≤? n) (n ≤? limit) h in (leb-true 1 n (b .0), leb-true n limit (b .1))
 
 -- what a window that holds says
 window-says : (N : ℕ) (j : Job) → windowHolds N j ≡ true → (j .release < j .deadline) × (j .deadline ≤ N)
 unfolding windowHolds
-window-says N j h = let b = both-true (j .release <? j .deadline) (j .deadline ≤? N) h in (ltb-true (j .release) (j .deadline) (b .0), leb-true (j .deadline) N (b .1))
+window-says N j h = let b = both-hold (j .release <? j .deadline) (j .deadline ≤? N) h in (ltb-true (j .release) (j .deadline) (b .0), leb-true (j .deadline) N (b .1))
 
 -- and holds where that is so
 window-holds : (N : ℕ) (j : Job) → j .release < j .deadline → j .deadline ≤ N → windowHolds N j ≡ true
@@ -53,13 +54,13 @@ budget-says N j h = (
 )
   where
     a : (((1 ≤? j .lo) && (j .lo ≤? j .hi) && (j .hi ≤? N)) ≡ true) × ((isHi j || (j .lo =? j .hi)) ≡ true)
-    a = both-true ((1 ≤? j .lo) && (j .lo ≤? j .hi) && (j .hi ≤? N)) (isHi j || (j .lo =? j .hi)) h
+    a = both-hold ((1 ≤? j .lo) && (j .lo ≤? j .hi) && (j .hi ≤? N)) (isHi j || (j .lo =? j .hi)) h
 
     b : (((1 ≤? j .lo) && (j .lo ≤? j .hi)) ≡ true) × ((j .hi ≤? N) ≡ true)
-    b = both-true ((1 ≤? j .lo) && (j .lo ≤? j .hi)) (j .hi ≤? N) (a .0)
+    b = both-hold ((1 ≤? j .lo) && (j .lo ≤? j .hi)) (j .hi ≤? N) (a .0)
 
     c : ((1 ≤? j .lo) ≡ true) × ((j .lo ≤? j .hi) ≡ true)
-    c = both-true (1 ≤? j .lo) (j .lo ≤? j .hi) (b .0)
+    c = both-hold (1 ≤? j .lo) (j .lo ≤? j .hi) (b .0)
 
 -- the job of number suc k is the one at place k
 pub job-no : (p : Plan) (k : ℕ) → jobNo p (suc k) ≡ jobAt p k
@@ -76,8 +77,8 @@ slot-says p s k h =
   where
     go : ((suc k ≤? p .jobs) && (jobAt p k .release ≤? s) && (s <? jobAt p k .deadline)) ≡ true → (k < p .jobs) × (jobAt p k .release ≤ s) × (s < jobAt p k .deadline)
     go w =
-        let a = both-true ((suc k ≤? p .jobs) && (jobAt p k .release ≤? s)) (s <? jobAt p k .deadline) w in
-        let b = both-true (suc k ≤? p .jobs) (jobAt p k .release ≤? s) (a .0) in
+        let a = both-hold ((suc k ≤? p .jobs) && (jobAt p k .release ≤? s)) (s <? jobAt p k .deadline) w in
+        let b = both-hold (suc k ≤? p .jobs) (jobAt p k .release ≤? s) (a .0) in
         (leb-true (suc k) (p .jobs) (b .0), leb-true (jobAt p k .release) s (b .1), ltb-true s (jobAt p k .deadline) (a .1))
 
 -- the job at place k, among the first n

@@ -1,5 +1,4 @@
 pub mod Promise
-pub mod RefusalLaws
 pub mod MemberLaws
 pub mod InOrderLaws
 pub mod CountLaws

@@ -12,7 +12,7 @@ use Rattle.words.specs.Words.{if_then_else_, _<?_, _=?_}
 use Rattle.answers.specs.declared.Answer.{Answer}
 use Rattle.answers.specs.Answer.{accepted, firstRefusal}
 use Rattle.intervals.specs.Intervals.{insert, rising}
-use Rattle.acceptance_promise.specs.RefusalLaws.{both-accept}
+use Rattle.answers.specs.RefusalLaws.{both-accept}
 
 -- ---- by place
 -- what stands at a place is a member

@@ -10,6 +10,7 @@ use Rattle.words.specs.Words.{if_then_else_, _≤?_}
 use Rattle.answers.specs.declared.Answer.{Answer}
 use Rattle.answers.specs.declared.Answer.the-variants.{Accepted, Written, Form, NoRoom}
 use Rattle.answers.specs.Answer.{accepted, _unless_, _andThen_, firstRefusal}
+use Rattle.answers.specs.RefusalLaws.{both-accept}
 use Rattle.plan.specs.declared.Plan.{Plan}
 use Rattle.plan.specs.Limits.{maxSlots, maxJobs, maxNumber}
 use Rattle.plan.specs.Plan.{jobsOf, slotsOf}
@@ -59,24 +60,15 @@ unfolding firstRefusal accepted
 all-small k [] h = refl
 all-small k (n ∷ ns) h = rw (le-leb n maxNumber (h .0)) (all-small (suc k) ns (h .1))
 
--- ---- one answer after another
-
-and-then : (a b : Answer) → accepted (a andThen b) ≡ true → (accepted a ≡ true) × (accepted b ≡ true)
-and-then a b h = pick (accepted a) refl h
-  where
-    pick : (x : Bool) → accepted a ≡ x → accepted (if x then b else a) ≡ true → (x ≡ true) × (accepted b ≡ true)
-    pick true e h = (refl, h)
-    pick false e h = absurd (let z : _≡_ {A = ℕ} 0 1 = cc in omega arith)
-
 -- ---- the writer's answer
 
 -- a plan that the writer accepts can be written
 pub accepted-writable : (p : Plan) (room : ℕ) → accepted (writeAnswer p room) ≡ true → Writable p
 unfolding writeAnswer check2 check3 numbersFit numbersOn
 accepted-writable p room h =
-    let a = and-then (check2 p) _ h in
-    let b = and-then (check3 p) _ (a .1) in
-    let c = and-then (numbersFit p) _ (b .1) in
+    let a = both-accept (check2 p) _ h in
+    let b = both-accept (check3 p) _ (a .1) in
+    let c = both-accept (numbersFit p) _ (b .1) in
     let s = small-all 1 (numbersOn p) (c .0) .1 .1 in
     let t = all-split Small (flatMap numbersIn (jobsOf p)) (slotsOf p) s in
     record { slots-fit = limit-slots _ (a .0); jobs-fit = limit-jobs _ (b .0); small-jobs = all-unflat Small numbersIn (jobsOf p) (t .0); small-slots = t .1 }

@@ -35,21 +35,6 @@ use Rattle.plan_text.specs.WriteLaws.{all-small}
 
 -- ---- the checks in the order of the code
 
--- a call's answer r to the check a, and its test t
-module _ (a r : Answer) (t : Bool) (e : r ≡ a) (q : t ≡ accepted r) where
-  pub passed : not t ≡ false → accepted a ≡ true
-  passed h = sym (q ∙ ap accepted e) ∙ not-false t h
-
-  pub failed : not t ≡ true → accepted a ≡ false
-  failed h = sym (q ∙ ap accepted e) ∙ not-true t h
-
--- accepted, the rest is the whole answer; refused, it is
-pub passes : (a b r : Answer) (t : Bool) → r ≡ a → t ≡ accepted r → not t ≡ false → b ≡ (a andThen b)
-passes a b r t e q h = rw (passed a r t e q h)
-
-pub refuses : (a b r : Answer) (t : Bool) → r ≡ a → t ≡ accepted r → not t ≡ true → r ≡ (a andThen b)
-refuses a b r t e q h = let z : accepted a ≡ false = failed a r t e q h in e ∙ rw z
-
 -- the first number above 9999 of a job: each line in turn
 module _ (line : ℕ) (j : Job) where
   pub release-high : 9999 < j .release → Form (line + 1) ≡ firstRefusal fourDigits line (numbersIn j)

@@ -10,7 +10,7 @@ use Rattle.words.specs.Words.{_≤?_, above0, below0}
 use Rattle.plan.specs.declared.Job.{Job}
 use Rattle.plan.specs.Plan.{jobNo, isHi, tableAt}
 use Rattle.acceptance_promise.specs.Promise.{InOrder}
-use Rattle.acceptance_promise.specs.RefusalLaws.{both-true, never}
+use Rattle.words.specs.Cases.{both-hold, never}
 use Rattle.executive.specs.declared.Phase.{Phase}
 use Rattle.executive.specs.declared.Phase.the-variants.{T, H}
 use Rattle.executive.specs.declared.Run.{Run}
@@ -31,7 +31,7 @@ same-job k m e = cc
 module _ (r : Run) where
   ready-numbers : (k : ℕ) → isReady (r .t) (jobNo (r .plan) k) (entryNo r k) ≡ true → Ready r k
   ready-numbers k h =
-      let w = both-true (live (entryNo r k)) (jobNo (r .plan) k .release ≤? r .t) h in
+      let w = both-hold (live (entryNo r k)) (jobNo (r .plan) k .release ≤? r .t) h in
       (w .0, leb-true (jobNo (r .plan) k .release) (r .t) (w .1))
 
   numbers-ready : (k : ℕ) → Ready r k → isReady (r .t) (jobNo (r .plan) k) (entryNo r k) ≡ true
@@ -79,7 +79,7 @@ module _ (r : Run) (js-fit : r .plan .jobs ≤ length (r .plan .job)) (es-fit : 
   earliest-ready-hi =
       ⊎-elim
       (λ w. inl (w .0, λ k l h. w .1 k l (passes k h)))
-      (λ w. let q = both-true (isReady (r .t) (jobNo (r .plan) (w .0)) (entryNo r (w .0))) (isHi (jobNo (r .plan) (w .0))) (w .3) in
+      (λ w. let q = both-hold (isReady (r .t) (jobNo (r .plan) (w .0)) (entryNo r (w .0))) (isHi (jobNo (r .plan) (w .0))) (w .3) in
       inr (w .0, w .1, w .2, (q .1, ready-numbers r (w .0) (q .0)), λ k l h. w .4 k l (passes k h)))
       (earliest-of (r .plan) (r .job) js-fit es-fit (λ j e. isReady (r .t) j e && isHi j))
     where

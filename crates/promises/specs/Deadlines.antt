@@ -10,7 +10,7 @@ use lib.ListN.{length, getD}
 use Rattle.plan.specs.declared.Plan.{Plan}
 use Rattle.plan.specs.Plan.{jobNo, isHi, naming}
 use Rattle.acceptance_promise.specs.Promise.{jobAt, InOrder, A2}
-use Rattle.acceptance_promise.specs.RefusalLaws.{never}
+use Rattle.words.specs.Cases.{never}
 use Rattle.acceptance_promise.specs.InOrderLaws.{in-order}
 use Rattle.acceptance_promise.specs.Laws.{accepted-has}
 use Rattle.executive.specs.declared.Run.{Run}

@@ -10,11 +10,10 @@ use lib.ListN.{length, getD}
 use lib.Seq.{getD-take, length-take-le}
 use borrow.Author.Tests.{eqb-true, ltb-true, ltb-false, eqb-false}
 use Rattle.words.specs.Words.{if_then_else_, _=?_, _<?_}
-use Rattle.words.specs.Cases.{by-test}
+use Rattle.words.specs.Cases.{by-test, never}
 use Rattle.plan.specs.declared.Job.{Job}
 use Rattle.plan.specs.declared.Plan.{Plan}
 use Rattle.plan.specs.Plan.{jobsOf, jobNo, isHi, blankJob}
-use Rattle.acceptance_promise.specs.RefusalLaws.{never}
 use Rattle.executive.specs.declared.Entry.{Entry}
 use Rattle.executive.specs.declared.Slot.{Slot}
 use Rattle.executive.specs.Run.{freshEntry}

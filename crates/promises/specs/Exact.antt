@@ -6,7 +6,7 @@ use mathlib.Core.Logic.{⊎-elim}
 use mathlib.Core.Bool.{Bool, true, false, not}
 use mathlib.Core.List.{List, [], _∷_}
 use Rattle.words.specs.Words.{below0}
-use Rattle.words.specs.Cases.{by-test}
+use Rattle.words.specs.Cases.{by-test, never}
 use Rattle.answers.specs.declared.Answer.{Answer}
 use Rattle.answers.specs.declared.Answer.the-variants.{Accepted, Overdrawn}
 use Rattle.answers.specs.Answer.{accepted, _unless_, _andThen_, firstRefusal}
@@ -16,7 +16,7 @@ use Rattle.plan.specs.Plan.{slotsOf}
 use Rattle.intervals.specs.Spares.{row, current}
 use Rattle.acceptance.specs.Acceptance.{wellFormed, check8, alongTable, check9, acceptance}
 use Rattle.acceptance_promise.specs.Promise.{windowsOf, InOrder, hiOf, asked}
-use Rattle.acceptance_promise.specs.RefusalLaws.{never, both-accept}
+use Rattle.answers.specs.RefusalLaws.{both-accept}
 use Rattle.acceptance_promise.specs.InOrderLaws.{in-order}
 use Rattle.acceptance_promise.specs.TableLaws.{within-asked}
 use Rattle.acceptance_promise.specs.Check9Laws.{accepted-promise, refused-promise}

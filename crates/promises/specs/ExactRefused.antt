@@ -17,7 +17,7 @@ use Rattle.windows.specs.SlotLaws.{given-split, given-wider, given-fewer, count
 use Rattle.plan.specs.declared.Plan.{Plan}
 use Rattle.plan.specs.Plan.{isHi, tableAt}
 use Rattle.acceptance_promise.specs.Promise.{jobAt, windowsOf, tab, InOrder, asked}
-use Rattle.acceptance_promise.specs.RefusalLaws.{never}
+use Rattle.words.specs.Cases.{never}
 use Rattle.acceptance_promise.specs.InOrderLaws.{job-no}
 use Rattle.acceptance_promise.specs.CountLaws.{tab-start, tab-split, tab-mono}
 use Rattle.acceptance_promise.specs.TableLaws.{asked-high, asked-case, tab-due, coming-open}

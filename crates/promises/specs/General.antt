@@ -8,7 +8,7 @@ use lib.ListN.{length, getD}
 use Rattle.words.specs.Words.{every}
 use Rattle.answers.specs.declared.Answer.{Answer}
 use Rattle.answers.specs.declared.Answer.the-variants.{Accepted}
-use Rattle.acceptance_promise.specs.RefusalLaws.{both-true}
+use Rattle.words.specs.Cases.{both-hold}
 use Rattle.answers.specs.Answer.{accepted}
 
 -- ---- tests
@@ -33,8 +33,8 @@ module _ {A B : Type 0} (f : A → B → Bool) (a : A) (b : B) where
   unfolding zipWith every
   every-zip [] ys e i h l = absurd (not-suc-le-zero h)
   every-zip (x ∷ xs) [] e i h l = absurd (not-suc-le-zero l)
-  every-zip (x ∷ xs) (y ∷ ys) e zero h l = both-true (f x y) (every (zipWith f xs ys)) e .0
-  every-zip (x ∷ xs) (y ∷ ys) e (suc i) h l = every-zip xs ys (both-true (f x y) (every (zipWith f xs ys)) e .1) i (le-of-suc-le-suc h) (le-of-suc-le-suc l)
+  every-zip (x ∷ xs) (y ∷ ys) e zero h l = both-hold (f x y) (every (zipWith f xs ys)) e .0
+  every-zip (x ∷ xs) (y ∷ ys) e (suc i) h l = every-zip xs ys (both-hold (f x y) (every (zipWith f xs ys)) e .1) i (le-of-suc-le-suc h) (le-of-suc-le-suc l)
 
   -- and the other way
   pub zip-every : (xs : List A) (ys : List B) → ((i : ℕ) → i < length xs → i < length ys → f (getD xs i a) (getD ys i b) ≡ true) → every (zipWith f xs ys) ≡ true

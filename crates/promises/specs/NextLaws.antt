@@ -12,7 +12,7 @@ use borrow.Author.Tests.{leb-true, leb-false, ltb-true, eqb-false, lt-ltb, le-le
 use Rattle.plan.specs.declared.Job.{Job}
 use Rattle.words.specs.Words.{if_then_else_, _≤?_, _=?_}
 use Rattle.plan.specs.Plan.{jobsOf, jobNo, isHi, blankJob}
-use Rattle.acceptance_promise.specs.RefusalLaws.{both-true}
+use Rattle.words.specs.Cases.{both-hold}
 use Rattle.executive.specs.declared.Standing.{Standing}
 use Rattle.executive.specs.declared.Standing.the-variants.{Waiting, Finished, Cut, Dropped}
 use Rattle.executive.specs.declared.Entry.{Entry}
@@ -234,9 +234,9 @@ live-fewer t hi given (Dropped b) h w = absurd (false≢true w)
 pub given-within : (t hi given : ℕ) (s : Standing) → standingHolds t hi given s ≡ true → given ≤ hi
 unfolding standingHolds
 given-within t hi given Waiting h = omega (arith, ltb-true given hi h)
-given-within t hi given (Finished b) h = leb-true given hi (both-true (given ≤? hi) (b ≤? t) h .0)
-given-within t hi given (Cut b) h = leb-true given hi (both-true (given ≤? hi) (b ≤? t) h .0)
-given-within t hi given (Dropped b) h = leb-true given hi (both-true (given ≤? hi) (b ≤? t) h .0)
+given-within t hi given (Finished b) h = leb-true given hi (both-hold (given ≤? hi) (b ≤? t) h .0)
+given-within t hi given (Cut b) h = leb-true given hi (both-hold (given ≤? hi) (b ≤? t) h .0)
+given-within t hi given (Dropped b) h = leb-true given hi (both-hold (given ≤? hi) (b ≤? t) h .0)
 
 -- an ended one at most hi, marked at t or before
 ended-holds : (t hi given b : ℕ) → given ≤ hi → b ≤ t → ((given ≤? hi) && (b ≤? t)) ≡ true
@@ -246,9 +246,9 @@ ended-holds t hi given b h l = joined (given ≤? hi) (b ≤? t) (le-leb given h
 later-holds : (t hi given : ℕ) (s : Standing) → standingHolds t hi given s ≡ true → standingHolds (t + 1) hi given s ≡ true
 unfolding standingHolds
 later-holds t hi given Waiting h = h
-later-holds t hi given (Finished b) h = let w = both-true (given ≤? hi) (b ≤? t) h in ended-holds (t + 1) hi given b (leb-true given hi (w .0)) (omega (arith, leb-true b t (w .1)))
-later-holds t hi given (Cut b) h = let w = both-true (given ≤? hi) (b ≤? t) h in ended-holds (t + 1) hi given b (leb-true given hi (w .0)) (omega (arith, leb-true b t (w .1)))
-later-holds t hi given (Dropped b) h = let w = both-true (given ≤? hi) (b ≤? t) h in ended-holds (t + 1) hi given b (leb-true given hi (w .0)) (omega (arith, leb-true b t (w .1)))
+later-holds t hi given (Finished b) h = let w = both-hold (given ≤? hi) (b ≤? t) h in ended-holds (t + 1) hi given b (leb-true given hi (w .0)) (omega (arith, leb-true b t (w .1)))
+later-holds t hi given (Cut b) h = let w = both-hold (given ≤? hi) (b ≤? t) h in ended-holds (t + 1) hi given b (leb-true given hi (w .0)) (omega (arith, leb-true b t (w .1)))
+later-holds t hi given (Dropped b) h = let w = both-hold (given ≤? hi) (b ≤? t) h in ended-holds (t + 1) hi given b (leb-true given hi (w .0)) (omega (arith, leb-true b t (w .1)))
 
 module _ (t : ℕ) (j : Job) where
   -- expiry keeps it

@@ -15,7 +15,7 @@ use Rattle.plan.specs.Limits.{maxJobs}
 use Rattle.plan.specs.CountLaws.{counts-length, counts-at}
 use Rattle.plan.specs.Plan.{jobsOf, jobNo, isHi, blankJob, countsAt}
 use Rattle.acceptance_promise.specs.Promise.{jobAt, tab}
-use Rattle.acceptance_promise.specs.RefusalLaws.{both-true}
+use Rattle.words.specs.Cases.{both-hold}
 use Rattle.acceptance_promise.specs.OneSlot.{OnTable}
 use Rattle.executive.specs.declared.Entry.{Entry}
 use Rattle.executive.specs.declared.Phase.the-variants.{T, H}
@@ -51,7 +51,7 @@ past-lo-no j e h alive high = leb-false (j .lo) (e .given) (rw (alive, high) at 
 -- an overrun is of a HI job
 past-lo-high : (j : Job) (e : Entry) → pastLo j e ≡ true → isHi j ≡ true
 unfolding pastLo
-past-lo-high j e h = both-true (live e) (isHi j) (both-true (live e && isHi j) (j .lo ≤? e .given) h .0) .1
+past-lo-high j e h = both-hold (live e) (isHi j) (both-hold (live e && isHi j) (j .lo ≤? e .given) h .0) .1
 
 pub overrun-of : (s : Run) (slot : Slot) (k : ℕ) → slot ≡ Slot.Job (suc k) → overrun s slot ≡ pastLo (jobAt (s .plan) k) (entryAt s k)
 unfolding overrun
@@ -69,14 +69,14 @@ unfolding everySettled
 every-settled [] es cs h i a b c = absurd (not-suc-le-zero a)
 every-settled (j ∷ js) [] cs h i a b c = absurd (not-suc-le-zero b)
 every-settled (j ∷ js) (e ∷ es) [] h i a b c = absurd (not-suc-le-zero c)
-every-settled (j ∷ js) (e ∷ es) (x ∷ cs) h zero a b c = both-true (settled j e x) (everySettled js es cs) h .0
+every-settled (j ∷ js) (e ∷ es) (x ∷ cs) h zero a b c = both-hold (settled j e x) (everySettled js es cs) h .0
 every-settled (j ∷ js) (e ∷ es) (x ∷ cs) h (suc i) a b c =
-    every-settled js es cs (both-true (settled j e x) (everySettled js es cs) h .1) i (le-of-suc-le-suc a) (le-of-suc-le-suc b) (le-of-suc-le-suc c)
+    every-settled js es cs (both-hold (settled j e x) (everySettled js es cs) h .1) i (le-of-suc-le-suc a) (le-of-suc-le-suc b) (le-of-suc-le-suc c)
 
 settled-says : (j : Job) (e : Entry) (count : ℕ) → settled j e count ≡ true → live e ≡ true → (count ≤ e .given) × (isHi j ≡ true → e .given < j .lo)
 unfolding settled
 settled-says j e count h alive =
-    let w = both-true (count ≤? e .given) (not (pastLo j e)) (rw alive at h) in
+    let w = both-hold (count ≤? e .given) (not (pastLo j e)) (rw alive at h) in
     (leb-true count (e .given) (w .0), λ high. past-lo-no j e (not-true (pastLo j e) (w .1)) alive high)
 
 -- a run that can return is on the table

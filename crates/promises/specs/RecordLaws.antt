@@ -19,7 +19,7 @@ use Rattle.plan.specs.Plan.{jobsOf, jobNo, blankJob}
 use Rattle.intervals.specs.Spares.{hiLeft, loLeft}
 use Rattle.acceptance.specs.Acceptance.{wellFormed, acceptance, check8, check9}
 use Rattle.acceptance_promise.specs.Promise.{InOrder}
-use Rattle.acceptance_promise.specs.RefusalLaws.{unless-holds, both-accept}
+use Rattle.answers.specs.RefusalLaws.{unless-holds, both-accept}
 use Rattle.acceptance_promise.specs.InOrderLaws.{in-order}
 use Rattle.executive.specs.declared.Run.{Run}
 use Rattle.executive.specs.declared.Slot.{Slot}

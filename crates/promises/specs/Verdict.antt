@@ -7,7 +7,7 @@ use native.Mathlib.Omega.{arith}
 use Rattle.plan.specs.declared.Plan.{Plan}
 use Rattle.answers.specs.declared.Answer.the-variants.{Accepted, Overdrawn}
 use Rattle.acceptance.specs.Acceptance.{wellFormed, acceptance}
-use Rattle.acceptance_promise.specs.RefusalLaws.{never}
+use Rattle.words.specs.Cases.{never}
 use Rattle.promises.specs.Compute.{everything}
 use Rattle.promises.specs.Sums.{A, B}
 use Rattle.promises.specs.Demands.{Sized}

@@ -10,7 +10,8 @@ use Rattle.answers.specs.Answer.{firstRefusal}
 use Rattle.plan.specs.Limits.{maxJobs}
 use Rattle.plan.specs.Plan.{blankJob}
 use Rattle.plan_text.specs.Parts.{numbersIn, fourDigits}
-use Rattle.plan_text.specs.WriterLaws.{jobs-from, jobs-end, passes, refuses}
+use Rattle.answers.specs.AnswerLaws.{passes, refuses}
+use Rattle.plan_text.specs.WriterLaws.{jobs-from, jobs-end}
 use Rattle.plan_text.proofs.writer.jobs_fit.Statement.{statement}
 use Rattle.plan_text.proofs.writer.jobs_fit.Tie as tie
 

@@ -11,7 +11,8 @@ use Rattle.plan.specs.Limits.{maxJobs}
 use Rattle.plan.specs.Plan.{jobsOf, slotsOf}
 use Rattle.plan_text.specs.Write.{numbersFit}
 use Rattle.plan_text.specs.Parts.{numbersIn, fourDigits}
-use Rattle.plan_text.specs.WriterLaws.{numbers-parts, passes, refuses}
+use Rattle.answers.specs.AnswerLaws.{passes, refuses}
+use Rattle.plan_text.specs.WriterLaws.{numbers-parts}
 use Rattle.plan_text.proofs.writer.numbers_fit.Statement.{statement}
 use Rattle.plan_text.proofs.writer.numbers_fit.Tie as tie
 

@@ -5,7 +5,8 @@ use mathlib.Core.Bool.{true}
 use Rattle.answers.specs.Answer.{accepted}
 use Rattle.plan.specs.Rules.{check2, check3}
 use Rattle.plan_text.specs.Write.{numbersFit}
-use Rattle.plan_text.specs.WriterLaws.{passed, failed, slots-within, jobs-within, ends-2, ends-3, ends-1, ends-14, ends-written}
+use Rattle.answers.specs.AnswerLaws.{passed, failed}
+use Rattle.plan_text.specs.WriterLaws.{slots-within, jobs-within, ends-2, ends-3, ends-1, ends-14, ends-written}
 use borrow.Author.Needs.{needs}
 use Rattle.plan_text.proofs.writer.write_plan.Statement.{statement}
 use Rattle.plan_text.proofs.writer.write_plan.Tie as tie

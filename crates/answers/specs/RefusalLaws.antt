@@ -7,19 +7,11 @@ use mathlib.Core.Logic.{_⊎_, inl, inr}
 use mathlib.Core.Bool.{Bool, true, false, _&&_, _||_}
 use mathlib.Core.List.{List, [], _∷_}
 use lib.ListN.{length, getD}
+use Rattle.words.specs.Cases.{never}
 use Rattle.answers.specs.declared.Answer.{Answer}
 use Rattle.answers.specs.Answer.{accepted, _unless_, _andThen_, firstRefusal}
 
 -- ---- tests
--- true is not false
-pub never : {b : Bool} → b ≡ true → b ≡ false → ⊥
-never t f = let z : _≡_ {A = ℕ} 0 1 = cc in omega arith
-
--- both of two tests
-pub both-true : (a b : Bool) → (a && b) ≡ true → (a ≡ true) × (b ≡ true)
-both-true true b h = (refl, h)
-both-true false b h = absurd (never h refl)
-
 -- one of two tests
 pub either-true : (a b : Bool) → (a || b) ≡ true → (a ≡ true) ⊎ (b ≡ true)
 either-true true b h = inl refl
