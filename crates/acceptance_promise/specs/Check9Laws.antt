@@ -21,20 +21,12 @@ use Rattle.plan.specs.CountLaws.{counts-at, counts-length}
 use Rattle.intervals.specs.Spares.{hiLeft, row, current}
 use Rattle.acceptance.specs.Acceptance.{wellFormed, check8, alongTable, check9, acceptance}
 use Rattle.acceptance_promise.specs.Promise.{jobAt, windowsOf, tab, InOrder, hiOf, asked, A1, A2}
+use Rattle.words.specs.ZipLaws.{zip-at}
 use Rattle.answers.specs.RefusalLaws.{both-accept, one-refused, unless-holds, unless-fails, each-accepted, some-refused}
 use Rattle.acceptance_promise.specs.InOrderLaws.{in-order, among-jobs, jobs-length, slots-length}
 use Rattle.acceptance_promise.specs.TableLaws.{asked-due}
 use Rattle.acceptance_promise.specs.SpareLaws.{not-below-exactly, below-shows}
 use Rattle.acceptance_promise.specs.Check8Laws.{a1-holds, a1-broken}
-
--- what stands at a place of two lists put together
-pub zip-at : {A B C : Type 0} (f : A → B → C) (da : A) (db : B) (dc : C) (xs : List A) (ys : List B) (i : ℕ) → i < length xs → i < length ys
-    → getD (zipWith f xs ys) i dc ≡ f (getD xs i da) (getD ys i db)
-unfolding zipWith
-zip-at f da db dc [] ys i l m = absurd (not-suc-le-zero l)
-zip-at f da db dc (x ∷ xs) [] i l m = absurd (not-suc-le-zero m)
-zip-at f da db dc (x ∷ xs) (y ∷ ys) zero l m = refl
-zip-at f da db dc (x ∷ xs) (y ∷ ys) (suc i) l m = zip-at f da db dc xs ys i (le-of-suc-le-suc l) (le-of-suc-le-suc m)
 
 module _ (p : Plan) (ok : InOrder p) where
   -- the work along the table is what may be asked
@@ -43,7 +35,7 @@ module _ (p : Plan) (ok : InOrder p) where
   along-asked t k l =
       let few : k < maxJobs = (let b = ok .jobs in omega arith) in
       let count : getD (countsAt p t) k 0 ≡ tab p k t = (let e : 1 + k ≡ suc k = omega arith in rw e at (counts-at p t k few)) in
-      zip-at (λ j c. hiLeft j (c <? j .lo) c) blankJob 0 0 (jobsOf p) (countsAt p t) k (rw (jobs-length p ok) l) (rw (counts-length p t) few)
+      zip-at (λ j c. hiLeft j (c <? j .lo) c) (jobsOf p) (countsAt p t) k blankJob 0 0 (rw (jobs-length p ok) l) (rw (counts-length p t) few)
       ∙ rw (among-jobs p k l, count)
 
   -- the test of check 9: along the table, the current HI spare is below 0 at border t

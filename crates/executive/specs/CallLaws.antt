@@ -22,15 +22,15 @@ use Rattle.executive.specs.Coherent.{coherent}
 use Rattle.executive.specs.Choice.{ready, setOf, howMany, chosen, canGoOn, choose}
 use Rattle.executive.specs.Ready.{members}
 use Rattle.executive.specs.ReadyLaws.{members-all, ones-set}
-use Rattle.executive.specs.CoherentLaws.{chain, rule}
+use Rattle.answers.specs.RefusalLaws.{unless-holds, both-accept}
 use Rattle.executive.specs.Step.{nextRun, kindFits, reportAnswer, step}
 
 -- a call that goes on has a coherent run before its last border
 pub goes-on : (r : Run) → accepted (canGoOn r) ≡ true → (coherent r ≡ true) × (r .t < r .plan .slots)
 unfolding canGoOn accepted
 goes-on r p =
-    let a = chain (Incoherent unless coherent r) (Over (r .t) unless (r .t <? r .plan .slots)) p in
-    (rule Incoherent (coherent r) refl (a .0), ltb-true (r .t) (r .plan .slots) (rule (Over (r .t)) (r .t <? r .plan .slots) refl (a .1)))
+    let a = both-accept (Incoherent unless coherent r) (Over (r .t) unless (r .t <? r .plan .slots)) p in
+    (unless-holds Incoherent (coherent r) refl (a .0), ltb-true (r .t) (r .plan .slots) (unless-holds (Over (r .t)) (r .t <? r .plan .slots) refl (a .1)))
 
 -- the place of the current interval, from the layout of the plan
 pub place-of-current : (p : Plan) (t : ℕ) (l : Layout) (place : ℕ) → l ≡ layoutOf p → place ≡ pastIn l t → place ≡ past t (intervals p)

@@ -9,9 +9,11 @@ use lib.ListN.{length, getD}
 use lib.Seq.{length-take-le, getD-take}
 use borrow.Author.Tests.{leb-true, ltb-true, ne-eqb}
 use Rattle.words.specs.Words.{if_then_else_, _≤?_, _<?_, _=?_, below0, above0, every}
+use Rattle.words.specs.Cases.{both-hold}
 use Rattle.answers.specs.declared.Answer.{Answer}
 use Rattle.answers.specs.declared.Answer.the-variants.{SlotLimit, JobLimit, Budget, TableSlot}
 use Rattle.answers.specs.Answer.{accepted, _unless_, _andThen_, firstRefusal}
+use Rattle.answers.specs.RefusalLaws.{unless-holds, both-accept, each-accepted}
 use Rattle.plan.specs.declared.Job.{Job}
 use Rattle.plan.specs.declared.Plan.{Plan}
 use Rattle.plan.specs.Counts.{maxCount}
@@ -31,34 +33,7 @@ use Rattle.executive.specs.Choice.{isReady, ready, readyHi, better, earl
 use Rattle.executive.specs.Ready.{isMember, members}
 use Rattle.executive.specs.ReadyLaws.{Full, members-all, members-hi, members-length, member-at}
 use Rattle.executive.specs.Sound.{Sound, Countable}
-use Rattle.executive.specs.ZipLaws.{zipped-length, zipped-at}
-
--- both tests of a pair hold
-both : (a b : Bool) → (a && b) ≡ true → (a ≡ true) × (b ≡ true)
-both true b p = (refl, p)
-both false b p = absurd (let z : _≡_ {A = ℕ} 0 1 = cc in omega arith)
-
--- the answers of a chain that accepts all accept
-pub chain : (a b : Answer) → accepted (a andThen b) ≡ true → (accepted a ≡ true) × (accepted b ≡ true)
-chain a b p = go (accepted a) refl
-  where
-    go : (t : Bool) → accepted a ≡ t → (accepted a ≡ true) × (accepted b ≡ true)
-    go true q = (q, (rw q at p))
-    go false q = absurd (let h : accepted a ≡ true = rw q at p in let z : _≡_ {A = ℕ} 0 1 = cc in omega arith)
-
--- a rule whose refusal is not given holds
-pub rule : (refusal : Answer) (b : Bool) → accepted refusal ≡ false → accepted (refusal unless b) ≡ true → b ≡ true
-rule refusal true r p = refl
-rule refusal false r p = absurd (let z : _≡_ {A = ℕ} 0 1 = cc in omega arith)
-
--- a list with no refusal: no member has one
-none : {A : Type 0} (judge : ℕ → A → Answer) (k : ℕ) (xs : List A) (i : ℕ) (d : A) → i < length xs → accepted (firstRefusal judge k xs) ≡ true → accepted (judge (k + i) (getD xs i d)) ≡ true
-unfolding firstRefusal
-none judge k [] i d h p = absurd (not-suc-le-zero h)
-none judge k (x ∷ xs) zero d h p = rw (add-zero k) (chain (judge k x) (firstRefusal judge (suc k) xs) p .0)
-none judge k (x ∷ xs) (suc i) d h p =
-    let e : k + suc i ≡ suc k + i = omega arith in
-    rw e (none judge (suc k) xs i d (le-of-suc-le-suc h) (chain (judge k x) (firstRefusal judge (suc k) xs) p .1))
+use Rattle.words.specs.ZipLaws.{zipped-length, zipped-at}
 
 -- what is used of checks 2 to 7
 record Checked (p : Plan) : Type 0 where
@@ -70,14 +45,14 @@ record Checked (p : Plan) : Type 0 where
 checked : (p : Plan) → accepted (wellFormed p) ≡ true → Checked p
 unfolding wellFormed check2 check3 accepted
 checked p h =
-    let a = chain (check2 p) (check3 p andThen check4 p andThen check5 p andThen check6 p andThen check7 p) h in
-    let b = chain (check3 p) (check4 p andThen check5 p andThen check6 p andThen check7 p) (a .1) in
-    let c = chain (check4 p) (check5 p andThen check6 p andThen check7 p) (b .1) in
-    let d = chain (check5 p) (check6 p andThen check7 p) (c .1) in
-    let e = chain (check6 p) (check7 p) (d .1) in
+    let a = both-accept (check2 p) (check3 p andThen check4 p andThen check5 p andThen check6 p andThen check7 p) h in
+    let b = both-accept (check3 p) (check4 p andThen check5 p andThen check6 p andThen check7 p) (a .1) in
+    let c = both-accept (check4 p) (check5 p andThen check6 p andThen check7 p) (b .1) in
+    let d = both-accept (check5 p) (check6 p andThen check7 p) (c .1) in
+    let e = both-accept (check6 p) (check7 p) (d .1) in
     record {
-      slots = leb-true (p .slots) maxSlots (both (1 ≤? p .slots) (p .slots ≤? maxSlots) (rule SlotLimit (oneTo maxSlots (p .slots)) refl (a .0)) .1);
-      jobs = leb-true (p .jobs) maxJobs (both (1 ≤? p .jobs) (p .jobs ≤? maxJobs) (rule JobLimit (oneTo maxJobs (p .jobs)) refl (b .0)) .1);
+      slots = leb-true (p .slots) maxSlots (both-hold (1 ≤? p .slots) (p .slots ≤? maxSlots) (unless-holds SlotLimit (oneTo maxSlots (p .slots)) refl (a .0)) .1);
+      jobs = leb-true (p .jobs) maxJobs (both-hold (1 ≤? p .jobs) (p .jobs ≤? maxJobs) (unless-holds JobLimit (oneTo maxJobs (p .jobs)) refl (b .0)) .1);
       budget = d .0;
       table = e .0;
     }
@@ -89,8 +64,8 @@ few-jobs p h = checked p h .jobs
 budget-hi : (N : ℕ) (j : Job) → budgetHolds N j ≡ true → j .hi ≤ N
 unfolding budgetHolds
 budget-hi N j h =
-    let a = both ((1 ≤? j .lo) && (j .lo ≤? j .hi) && (j .hi ≤? N)) (isHi j || (j .lo =? j .hi)) h .0 in
-    leb-true (j .hi) N (both ((1 ≤? j .lo) && (j .lo ≤? j .hi)) (j .hi ≤? N) a .1)
+    let a = both-hold ((1 ≤? j .lo) && (j .lo ≤? j .hi) && (j .hi ≤? N)) (isHi j || (j .lo =? j .hi)) h .0 in
+    leb-true (j .hi) N (both-hold ((1 ≤? j .lo) && (j .lo ≤? j .hi)) (j .hi ≤? N) a .1)
 
 -- a slot that holds names one of the n jobs, or none
 slot-names : (p : Plan) (t k : ℕ) → slotHolds p t k ≡ true → k ≤ p .jobs
@@ -98,8 +73,8 @@ unfolding slotHolds
 slot-names p t zero h = zero-le
 slot-names p t (suc k) h =
     let j = jobNo p (suc k) in
-    let a = both ((suc k ≤? p .jobs) && (j .release ≤? t)) (t <? j .deadline) (rw (ne-eqb (suc k) 0 (λ (e : suc k ≡ 0). omega arith)) at h) .0 in
-    leb-true (suc k) (p .jobs) (both (suc k ≤? p .jobs) (j .release ≤? t) a .0)
+    let a = both-hold ((suc k ≤? p .jobs) && (j .release ≤? t)) (t <? j .deadline) (rw (ne-eqb (suc k) 0 (λ (e : suc k ≡ 0). omega arith)) at h) .0 in
+    leb-true (suc k) (p .jobs) (both-hold (suc k ≤? p .jobs) (j .release ≤? t) a .0)
 
 -- a live job that holds has fewer slots than hi
 live-below : (t hi given : ℕ) (s : Standing) → standingHolds t hi given s ≡ true → waiting s ≡ true → given < hi
@@ -112,8 +87,8 @@ live-below t hi given (Dropped u) h l = absurd (let z : _≡_ {A = ℕ} 0 1 = cc
 every-at : (bs : List Bool) (i : ℕ) → i < length bs → every bs ≡ true → getD bs i false ≡ true
 unfolding every
 every-at [] i h p = absurd (not-suc-le-zero h)
-every-at (b ∷ bs) zero h p = both b (every bs) p .0
-every-at (b ∷ bs) (suc i) h p = every-at bs i (le-of-suc-le-suc h) (both b (every bs) p .1)
+every-at (b ∷ bs) zero h p = both-hold b (every bs) p .0
+every-at (b ∷ bs) (suc i) h p = every-at bs i (le-of-suc-le-suc h) (both-hold b (every bs) p .1)
 
 -- the walk ends at the best or at a member: what both have, it has
 walked : (G : Slot → Type 0) (p : Plan) (best : Slot) (k : ℕ) (bs : List Bool) → G best → ((i : ℕ) → i < length bs → getD bs i false ≡ true → G (Slot.Job (k + i))) → G (earliestFrom p best k bs)
@@ -139,18 +114,18 @@ walked G p best k (b ∷ bs) g m = walked G p (if b then better p best k else be
 -- a member is live
 member-live : (hi : Bool) (t : ℕ) (j : Job) (e : Entry) → isMember hi t j e ≡ true → live e ≡ true
 unfolding isMember
-member-live false t j e w = both (live e) (j .release ≤? t) w .0
-member-live true t j e w = both (live e) (j .release ≤? t) (both (isReady t j e) (isHi j) w .0) .0
+member-live false t j e w = both-hold (live e) (j .release ≤? t) w .0
+member-live true t j e w = both-hold (live e) (j .release ≤? t) (both-hold (isReady t j e) (isHi j) w .0) .0
 
 -- a coherent run before its last border, whose arrays have all their places
 module _ (r : Run) (h : coherent r ≡ true) (before : r .t < r .plan .slots) (jobs : length (r .plan .job) ≡ maxJobs) (table : length (r .plan .table) ≡ maxSlots) (entries : length (r .job) ≡ maxJobs) where
   clauses : (accepted (wellFormed (r .plan)) ≡ true) × (entriesHold r ≡ true)
   unfolding coherent
   clauses =
-      let a = both (accepted (wellFormed (r .plan)) && (r .t ≤? r .plan .slots) && entriesHold r && sameRow (r .hi) (freshHi r)) (sameRow (r .lo) (freshLo r)) h .0 in
-      let b = both (accepted (wellFormed (r .plan)) && (r .t ≤? r .plan .slots) && entriesHold r) (sameRow (r .hi) (freshHi r)) a .0 in
-      let c = both (accepted (wellFormed (r .plan)) && (r .t ≤? r .plan .slots)) (entriesHold r) b in
-      (both (accepted (wellFormed (r .plan))) (r .t ≤? r .plan .slots) (c .0) .0, c .1)
+      let a = both-hold (accepted (wellFormed (r .plan)) && (r .t ≤? r .plan .slots) && entriesHold r && sameRow (r .hi) (freshHi r)) (sameRow (r .lo) (freshLo r)) h .0 in
+      let b = both-hold (accepted (wellFormed (r .plan)) && (r .t ≤? r .plan .slots) && entriesHold r) (sameRow (r .hi) (freshHi r)) a .0 in
+      let c = both-hold (accepted (wellFormed (r .plan)) && (r .t ≤? r .plan .slots)) (entriesHold r) b in
+      (both-hold (accepted (wellFormed (r .plan))) (r .t ≤? r .plan .slots) (c .0) .0, c .1)
 
   passes : Checked (r .plan)
   passes = checked (r .plan) (clauses .0)
@@ -163,8 +138,8 @@ module _ (r : Run) (h : coherent r ≡ true) (before : r .t < r .plan .slots) (j
   named =
       let s = passes .slots in
       let l : length (slotsOf (r .plan)) ≡ r .plan .slots = length-take-le (r .plan .slots) (r .plan .table) (omega arith) in
-      let a = none (λ t k. TableSlot t unless slotHolds (r .plan) t k) 0 (slotsOf (r .plan)) (r .t) 0 (omega arith) (passes .table) in
-      let b = rule (TableSlot (0 + r .t)) (slotHolds (r .plan) (0 + r .t) (getD (slotsOf (r .plan)) (r .t) 0)) refl a in
+      let a = each-accepted (λ t k. TableSlot t unless slotHolds (r .plan) t k) 0 0 (slotsOf (r .plan)) (passes .table) (r .t) (omega arith) (0 + r .t) refl in
+      let b = unless-holds (TableSlot (0 + r .t)) (slotHolds (r .plan) (0 + r .t) (getD (slotsOf (r .plan)) (r .t) 0)) refl a in
       rw (getD-take (r .plan .slots) (r .plan .table) (r .t) 0 before) at (slot-names (r .plan) (0 + r .t) (getD (slotsOf (r .plan)) (r .t) 0) b)
 
   pub sound : Sound r
@@ -181,8 +156,8 @@ module _ (r : Run) (h : coherent r ≡ true) (before : r .t < r .plan .slots) (j
       let b = sym (zipped-at f (r .plan .job) (r .job) (r .plan .jobs) (omega arith) (omega arith) i blankJob freshEntry false l) ∙ a in
       let c = live-below (r .t) (getD (r .plan .job) i blankJob .hi) (getD (r .job) i freshEntry .given) (getD (r .job) i freshEntry .standing) b v in
       let m : length (jobsOf (r .plan)) ≡ r .plan .jobs = length-take-le (r .plan .jobs) (r .plan .job) (omega arith) in
-      let d = none (λ k j. Budget k unless budgetHolds (r .plan .slots) j) 1 (jobsOf (r .plan)) i blankJob (omega arith) (passes .budget) in
-      let e = rule (Budget (1 + i)) (budgetHolds (r .plan .slots) (getD (jobsOf (r .plan)) i blankJob)) refl d in
+      let d = each-accepted (λ k j. Budget k unless budgetHolds (r .plan .slots) j) blankJob 1 (jobsOf (r .plan)) (passes .budget) i (omega arith) (1 + i) refl in
+      let e = unless-holds (Budget (1 + i)) (budgetHolds (r .plan .slots) (getD (jobsOf (r .plan)) i blankJob)) refl d in
       let g = budget-hi (r .plan .slots) (getD (r .plan .job) i blankJob) (rw (getD-take (r .plan .jobs) (r .plan .job) i blankJob l) at e) in
       let s = passes .slots in
       omega arith
@@ -210,10 +185,10 @@ module _ (r : Run) (h : coherent r ≡ true) (before : r .t < r .plan .slots) (j
 
       table-or : (b : Bool) → ((1 ≤? k) && live (entryNo r k)) ≡ b → Countable r (if b then Slot.Job k else earliest (r .plan) (ready r))
       table-or true q =
-          let some = leb-true 1 k (both (1 ≤? k) (live (entryNo r k)) q .0) in
+          let some = leb-true 1 k (both-hold (1 ≤? k) (live (entryNo r k)) q .0) in
           let few = passes .jobs in
           let n = named in
-          ((omega arith), (live-countable (k - 1) (omega arith) (both (1 ≤? k) (live (entryNo r k)) q .1)))
+          ((omega arith), (live-countable (k - 1) (omega arith) (both-hold (1 ≤? k) (live (entryNo r k)) q .1)))
       table-or false q = rw members-all at (earliest-countable false)
 
       all-or : (b : Bool) → Countable r (earliest (r .plan) (if b then ready r else readyHi r))

@@ -22,7 +22,7 @@ use Rattle.executive.specs.declared.Entry.{Entry}
 use Rattle.executive.specs.declared.Run.{Run}
 use Rattle.executive.specs.declared.Slot.{Slot}
 use Rattle.executive.specs.Choice.{ready, readyHi, setOf, howMany, goesBefore, better, earliestFrom, earliest}
-use Rattle.executive.specs.ZipLaws.{zipped-length, zipped-at}
+use Rattle.words.specs.ZipLaws.{zipped-length, zipped-at}
 use Rattle.executive.specs.Ready.{isMember, members, membersOf, slotOf, winner}
 
 pow2 : (k : ℕ) → 2 ^ suc k ≡ 2 ^ k * 2

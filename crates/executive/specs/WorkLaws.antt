@@ -25,7 +25,7 @@ use Rattle.executive.specs.Run.{hiWork, loWork, freshHi, freshLo}
 use Rattle.executive.specs.ReadyLaws.{Full}
 use Rattle.executive.specs.StepLaws.{filled-next}
 use Rattle.executive.specs.Work.{workLeft, workOf, freshRow}
-use Rattle.executive.specs.ZipLaws.{zipped-length, zipped-at}
+use Rattle.words.specs.ZipLaws.{zipped-length, zipped-at}
 
 module _ (hi : Bool) (r : Run) (full : Full r) where
   pub work-length : length (workOf hi r) ≡ r .plan .jobs

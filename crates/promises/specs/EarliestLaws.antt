@@ -17,7 +17,7 @@ use Rattle.plan.specs.Plan.{jobsOf, jobNo, isHi, blankJob}
 use Rattle.executive.specs.declared.Entry.{Entry}
 use Rattle.executive.specs.declared.Slot.{Slot}
 use Rattle.executive.specs.Run.{freshEntry}
-use Rattle.executive.specs.ZipLaws.{zipped-at}
+use Rattle.words.specs.ZipLaws.{zipped-at}
 use Rattle.executive.specs.Choice.{earliest, goesBefore, better, earliestFrom}
 use Rattle.promises.specs.Demands.{JobOf}
 use Rattle.promises.specs.Chosen.{Leads, EarliestOf}

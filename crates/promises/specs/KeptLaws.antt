@@ -27,7 +27,7 @@ use Rattle.executive.specs.declared.Phase.the-variants.{T, H}
 use Rattle.executive.specs.declared.Run.{Run}
 use Rattle.executive.specs.declared.Report.{Report}
 use Rattle.executive.specs.Run.{live, freshEntry, freshHi, hiWork, currentHi, newRun}
-use Rattle.executive.specs.ZipLaws.{zipped-at}
+use Rattle.words.specs.ZipLaws.{zipped-at}
 use Rattle.executive.specs.Coherent.{standingHolds}
 use Rattle.executive.specs.Choice.{chosen, earliest, readyHi}
 use Rattle.executive.specs.Step.{overrun, canReturn, phaseAfter, nextRun}

@@ -7,3 +7,4 @@ pub mod FilledLaws
 pub mod BackLaws
 pub mod PassedLaws
 pub mod PartLaws
+pub mod ZipLaws

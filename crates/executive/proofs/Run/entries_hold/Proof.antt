@@ -12,7 +12,7 @@ use Rattle.plan.specs.declared.Job.{Job}
 use Rattle.plan.specs.Limits.{maxJobs}
 use Rattle.executive.specs.declared.Entry.{Entry}
 use Rattle.executive.specs.Coherent.{standingHolds, entriesHold}
-use Rattle.executive.specs.ZipLaws.{every-on, every-not, every-end}
+use Rattle.words.specs.ZipLaws.{every-on, every-not, every-end}
 use Rattle.executive.proofs.Run.entries_hold.Statement.{statement}
 use Rattle.executive.proofs.Run.entries_hold.Tie as tie
 use borrow.Author.Needs.{needs}

@@ -15,7 +15,7 @@ use mir.Val.{ofZ, toZ}
 use Rattle.words.specs.Words.{every}
 use Rattle.intervals.specs.Intervals.{maxIntervals}
 use Rattle.executive.specs.Coherent.{sameSpare, sameRow}
-use Rattle.executive.specs.ZipLaws.{every-on, every-not, every-end}
+use Rattle.words.specs.ZipLaws.{every-on, every-not, every-end}
 use Rattle.executive.proofs.coherence.same_row.Statement.{statement}
 use Rattle.executive.proofs.coherence.same_row.Tie as tie
 use borrow.Author.Needs.{needs}

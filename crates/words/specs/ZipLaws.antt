@@ -17,7 +17,8 @@ module _ {A B C : Type 0} (f : A → B → C) where
   zip-length (x ∷ xs) [] h = absurd (not-suc-le-zero h)
   zip-length (x ∷ xs) (y ∷ ys) h = ap suc (zip-length xs ys (le-of-suc-le-suc h))
 
-  zip-at : (xs : List A) (ys : List B) (i : ℕ) (x : A) (y : B) (z : C) → i < length xs → i < length ys → getD (zipWith f xs ys) i z ≡ f (getD xs i x) (getD ys i y)
+  -- what stands at a place of two lists put together
+  pub zip-at : (xs : List A) (ys : List B) (i : ℕ) (x : A) (y : B) (z : C) → i < length xs → i < length ys → getD (zipWith f xs ys) i z ≡ f (getD xs i x) (getD ys i y)
   unfolding zipWith
   zip-at [] ys i x y z h k = absurd (not-suc-le-zero h)
   zip-at (a ∷ xs) [] i x y z h k = absurd (not-suc-le-zero k)
