@@ -14,6 +14,7 @@ use Rattle.words.specs.Cases.{by-test, by-less, by-equal, both-hold}
 use Rattle.answers.specs.declared.Answer.{Answer}
 use Rattle.answers.specs.declared.Answer.the-variants.{Accepted, SlotLimit, Form, Incoherent, Over}
 use Rattle.answers.specs.Answer.{accepted, _unless_, _andThen_}
+use Rattle.answers.specs.RefusalLaws.{unless-holds, both-accept}
 use Rattle.lines.specs.Lines.{bytes, number, Cursor, Read, got, refused, lineLength, lineOn, orForm, valueIn, field}
 use Rattle.lines.specs.RoundLaws.{cursor, unread, got-same}
 use Rattle.plan.specs.declared.Plan.{Plan}
@@ -50,13 +51,6 @@ check-stays s u h = rw (text-stays s u h)
 
 -- ---- an accepted step comes before the last slot, and the border moves on by one
 
-both-accept : (a b : Answer) → accepted (a andThen b) ≡ true → (accepted a ≡ true) × (accepted b ≡ true)
-both-accept a b h = by-test (accepted a) (λ e. (e, rw e at h)) (λ e. absurd (false≢true (sym e ∙ (rw e at h))))
-
-holds-unless : (refusal : Answer) (holds : Bool) → accepted refusal ≡ false → accepted (refusal unless holds) ≡ true → holds ≡ true
-holds-unless refusal true r h = refl
-holds-unless refusal false r h = absurd (false≢true (sym r ∙ h))
-
 first-holds : (a b c d e : Bool) → (a && b && c && d && e) ≡ true → a ≡ true
 first-holds a b c d e h = both-hold a b (both-hold (a && b) c (both-hold (a && b && c) d (both-hold (a && b && c && d) e h .0) .0) .0) .0
 
@@ -78,8 +72,8 @@ module _ (r : Run) (report : Report) (h : accepted (step r report .answer) ≡ t
   step-early =
       let go = both-accept (canGoOn r) _ answered .0 in
       let two = both-accept (Incoherent unless coherent r) (Over (r .t) unless (r .t <? r .plan .slots)) go in
-      let slot : r .t < r .plan .slots = ltb-true _ _ (holds-unless (Over (r .t)) (r .t <? r .plan .slots) refl (two .1)) in
-      let sound : coherent r ≡ true = holds-unless Incoherent (coherent r) refl (two .0) in
+      let slot : r .t < r .plan .slots = ltb-true _ _ (unless-holds (Over (r .t)) (r .t <? r .plan .slots) refl (two .1)) in
+      let sound : coherent r ≡ true = unless-holds Incoherent (coherent r) refl (two .0) in
       let formed : accepted (wellFormed (r .plan)) ≡ true = first-holds (accepted (wellFormed (r .plan))) _ _ _ _ sound in
       let few : r .plan .slots ≤ maxSlots = keeps-limit maxSlots (r .plan .slots) SlotLimit (check2 (r .plan)) refl refl (both-accept (check2 (r .plan)) _ formed .0) in
       omega arith

@@ -70,8 +70,8 @@ fn report_in(s: &[u8]) -> ReportName
 pub(crate) fn report_field(text: &[u8]) -> ReportAt
     ensures { λ r. ⌜ r ≡ reportAt (now (text .entry)) ⌝ }
 {
-    match lines::reading::find_value(text, 0, b"report=") {
-        ValueAt::At { start, len, next } => match report_in(lines::reading::value(
+    match line_reader::find_value(text, 0, b"report=") {
+        ValueAt::At { start, len, next } => match report_in(line_reader::part_from(
             text,
             start,
             len,

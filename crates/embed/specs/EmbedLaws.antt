@@ -12,7 +12,7 @@ use Rattle.answers.specs.Answer.{accepted}
 use Rattle.plan_text.specs.declared.PlanRead.{PlanRead}
 use Rattle.plan_text.specs.Read.{readPlan}
 use Rattle.plan_text.specs.Write.{writeAnswer, writeOut}
-use Rattle.plan_text.specs.WriterLaws.{passes, refuses}
+use Rattle.answers.specs.AnswerLaws.{passes, refuses}
 use Rattle.acceptance.specs.declared.Analysis.{Analysis}
 use Rattle.acceptance.specs.Analysis.{analysis}
 use Rattle.executive.specs.declared.Run.{Run}

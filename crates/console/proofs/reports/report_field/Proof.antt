@@ -14,8 +14,8 @@ find-value-requires c κs = search needs
 enum-known-start : tie.Need-enum-known-start
 enum-known-start c = search needs
 
-value-requires : tie.Need-value-requires
-value-requires c κs = search needs
+part-from-requires : tie.Need-part-from-requires
+part-from-requires c κs = search needs
 
 report-in-requires : tie.Need-report-in-requires
 report-in-requires c κs = search needs
@@ -33,13 +33,13 @@ returns : tie.Need-returns
 returns c =
     let n = c .before .before .before in
     let s = n .before .before .before in
-    report-there _ _ _ _ _ _ (sym (s .start .given .1) ∙ s .before .before .find-value .ensures) (n .before .value .ensures) (sym (c .before .report .given .1) ∙ n .report-in .ensures)
+    report-there _ _ _ _ _ _ (sym (s .start .given .1) ∙ s .before .before .find-value .ensures) (n .before .part-from .ensures) (sym (c .before .report .given .1) ∙ n .report-in .ensures)
 
 returns-2 : tie.Need-returns-2
 returns-2 c =
     let n = c .before .before in
     let s = n .before .before .before in
-    report-there _ _ _ _ _ _ (sym (s .start .given .1) ∙ s .before .before .find-value .ensures) (n .before .value .ensures) (sym (c .enum-told .given .1) ∙ n .report-in .ensures)
+    report-there _ _ _ _ _ _ (sym (s .start .given .1) ∙ s .before .before .find-value .ensures) (n .before .part-from .ensures) (sym (c .enum-told .given .1) ∙ n .report-in .ensures)
 
 returns-3 : tie.Need-returns-3
 returns-3 c = report-refused _ (sym (c .enum-told2 .given .1) ∙ c .before .before .find-value .ensures)
@@ -51,7 +51,7 @@ report-field-spec =
     slice-aggregate-find-value
     find-value-requires
     enum-known-start
-    value-requires
+    part-from-requires
     report-in-requires
     enum-known-report
     enum-told
