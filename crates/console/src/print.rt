@@ -167,6 +167,7 @@ pub(crate) fn put_refused_line(out: &mut [u8], at: usize, answer: Answer) -> usi
     if number != 8 {
         return put_value(out, first, place, b'\n');
     }
+    let other = answers::second_place(answer);
     let second = put_value(out, first, place, b',');
-    put_value(out, second, answers::second_place(answer), b'\n')
+    put_value(out, second, other, b'\n')
 }

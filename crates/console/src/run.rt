@@ -204,8 +204,8 @@ fn stepped(c: Console, report: Report, used: usize, out: &mut [u8]) -> Turn
     if !answers::is_accepted(answer) {
         return refused(c, answer, out);
     }
-    let printed = put_step(out, run);
     let next = after.run;
+    let printed = put_step(out, run);
     Turn {
         console: Console {
             stage: Stage::Running,

@@ -42,11 +42,11 @@ returns c =
     let whole = piece-then two (p3 .put-value2 .ensures) (omega arith) in
     piece-is (refused-one _ _ _ (n .number-of .ensures) (t .before .first-place .ensures) (t .if1 .taken)) (piece-within whole (omega arith))
 
-put-value-requires-3 : tie.Need-put-value-requires-3
-put-value-requires-3 c κs = search needs
-
 second-place-requires : tie.Need-second-place-requires
 second-place-requires c κs = search needs
+
+put-value-requires-3 : tie.Need-put-value-requires-3
+put-value-requires-3 c κs = search needs
 
 put-value-requires-4 : tie.Need-put-value-requires-4
 put-value-requires-4 c κs = search needs
@@ -57,15 +57,16 @@ same-length-2 c = search needs
 returns-2 : tie.Need-returns-2
 returns-2 c =
     let p4 = c .before .before in
-    let p3 = p4 .before .before .before .before .before in
-    let t = p3 .before .before in
+    let p3 = p4 .before .before .before .before in
+    let o = p3 .before .before in
+    let t = o .before in
     let p2 = t .before .before .before .before in
     let n = p2 .before .before in
     let p1 = n .before .before .before in
     let two = piece-then (p1 .put-key .ensures) (p2 .put-value .ensures) (omega arith) in
     let three = piece-then two (p3 .put-value3 .ensures) (omega arith) in
     let whole = piece-then three (p4 .put-value4 .ensures) (omega arith) in
-    piece-is (refused-two _ _ _ (n .number-of .ensures) (t .before .first-place .ensures) _ (p4 .before .second-place .ensures) (t .if1 .left)) (piece-within whole (omega arith))
+    piece-is (refused-two _ _ _ (n .number-of .ensures) (t .before .first-place .ensures) _ (o .second-place .ensures) (t .if1 .left)) (piece-within whole (omega arith))
 
 pub put-refused-line-spec : {M : Type 1} → statement M
 put-refused-line-spec =
@@ -80,8 +81,8 @@ put-refused-line-spec =
     put-value-requires-2
     same-length
     returns
-    put-value-requires-3
     second-place-requires
+    put-value-requires-3
     put-value-requires-4
     same-length-2
     returns-2)

@@ -28,7 +28,7 @@ returns c =
 
 put-step-requires : tie.Need-put-step-requires
 put-step-requires c κs =
-    let t = c .before in
+    let t = c .before .before in
     (t .before .before .before .before .before .pre, goes-on _ _ _ (t .before .before .step .ensures) (sym (t .before .is-accepted .ensures) ∙ not-false _ (t .if1 .left)))
 
 line-after-requires : tie.Need-line-after-requires
@@ -39,8 +39,8 @@ same-length-2 c = search needs
 
 returns-2 : tie.Need-returns-2
 returns-2 c =
-    let n = c .before .before .before .before in
-    let t = n .before .before in
+    let n = c .before .before .before in
+    let t = n .before .before .before in
     let a = t .before .before .before .before .before .args in
     told-is (step-taken (a .c) (a .used) _ _ (t .before .before .step .ensures) (sym (t .before .is-accepted .ensures) ∙ not-false _ (t .if1 .left)) _ (c .line-after .ensures)) (told-line _ _ (omega arith) (n .put-step .ensures) refl refl)
 
