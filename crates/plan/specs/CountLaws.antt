@@ -14,7 +14,7 @@ use Rattle.words.specs.Cases.{by-less, by-equal}
 use Rattle.plan.specs.declared.Plan.{Plan}
 use Rattle.plan.specs.Limits.{maxSlots, maxJobs}
 use Rattle.plan.specs.Plan.{naming, tableAt, tableSlots, countsAt}
-use Rattle.plan.specs.Counts.{maxCount, countedWith}
+use Rattle.plan.specs.Counts.{maxCount, countedWith, countPlace}
 
 -- ---- one count
 
@@ -85,6 +85,32 @@ module _ (counts : List ℕ) (k at : ℕ) (one : 1 ≤ k) (e : at ≡ k - 1) whe
     unfolding countedWith
     counted-more h = let l : getD counts (k - 1) 0 < maxCount = rw (sym e) h in rw (e, le-leb 1 k one, le-leb k maxJobs (omega arith), lt-ltb (getD counts (k - 1) 0) maxCount l)
 
+-- ---- the place of a count
+
+pub place-none : (k : ℕ) → k < 1 → maxJobs ≡ countPlace k
+unfolding countPlace
+place-none k h = rw (lt-leb 1 k h)
+
+pub place-above : (k at : ℕ) → 1 ≤ k → at ≡ k - 1 → maxJobs ≤ at → maxJobs ≡ countPlace k
+unfolding countPlace
+place-above k at one e h = rw (le-leb 1 k one, lt-leb k maxJobs (omega arith))
+
+pub place-there : (k at : ℕ) → 1 ≤ k → at ≡ k - 1 → at < maxJobs → at ≡ countPlace k
+unfolding countPlace
+place-there k at one e h = rw (le-leb 1 k one, le-leb k maxJobs (omega arith)) e
+
+place-of : (i : ℕ) → i < maxJobs → countPlace (1 + i) ≡ i
+place-of i h = sym (place-there (1 + i) i (omega arith) (omega arith) h)
+
+place-back : (k at : ℕ) → countPlace k ≡ at → at < maxJobs → k ≡ 1 + at
+place-back k at e h =
+    by-less k 1
+    (λ none. let q = place-none k none in absurd (omega arith))
+    (λ one.
+    by-less (k - 1) maxJobs
+    (λ few. let q = place-there k (k - 1) one refl few in omega arith)
+    (λ above. let q = place-above k (k - 1) one refl above in absurd (omega arith)))
+
 -- ---- one slot of the table
 
 -- a slot raises the count of the job that it names, and no other
@@ -109,6 +135,16 @@ counts-next-job p t k l few e =
     (λ q.
     rw (getD-set-other (countsAt p t) k i _ 0 q, counts-next-at p t i l b, ne-eqb (tableAt p t) (1 + i) (λ z. q (omega arith)))
     (sym (add-zero _))))
+
+-- counts that are those of border t, by the place of the named job's count
+module _ (p : Plan) (t at : ℕ) (counts : List ℕ) (here : counts ≡ countsAt p t) (l : t < length (p .table)) (e : at ≡ countPlace (tableAt p t)) where
+  -- it has none
+  pub counts-stay : maxJobs ≤ at → counts ≡ countsAt p (t + 1)
+  counts-stay h = here ∙ counts-next-none p t l (λ i b q. let n : countPlace (tableAt p t) ≡ i = rw q (place-of i b) in omega arith)
+
+  -- it has one, which is raised
+  pub counts-raise : at < maxJobs → set counts at (getD counts at 0 + 1) ≡ countsAt p (t + 1)
+  counts-raise h = rw here (counts-next-job p t at l h (place-back (tableAt p t) at (sym e) h))
 
 -- the counts of border t and slot t give those of border t + 1
 pub counts-step : (p : Plan) (t : ℕ) → t < length (p .table) → t < maxCount → countedWith (countsAt p t) (tableAt p t) ≡ countsAt p (t + 1)

@@ -15,3 +15,7 @@ unfoldable pub countedWith : List ℕ → ℕ → List ℕ
 countedWith counts k =
     let before = getD counts (k - 1) 0 in
     if oneTo maxJobs k && (before <? maxCount) then set counts (k - 1) (before + 1) else counts
+
+-- the place of job k's count, maxJobs where k names no job that has one
+unfoldable pub countPlace : ℕ → ℕ
+countPlace k = if oneTo maxJobs k then k - 1 else maxJobs

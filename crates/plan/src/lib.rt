@@ -10,7 +10,7 @@ ghost use Rattle.answers.specs.Answer.{_unless_};
 ghost use Rattle.plan.specs.Limits.{maxSlots, maxJobs, oneTo};
 ghost use Rattle.plan.specs.Plan.{blankJob, blankPlan, isHi, countsAt};
 ghost use Rattle.plan.specs.Rules.{windowHolds, budgetHolds, windowsHold};
-ghost use Rattle.plan.specs.Counts.{countedWith};
+ghost use Rattle.plan.specs.Counts.{countedWith, countPlace};
 ghost use Rattle.plan.specs.Same.{sameLevel, sameJob, samePlan};
 use answers::Answer;
 
@@ -196,7 +196,18 @@ pub fn counted(counts: [u16; JOBS], k: u16) -> [u16; JOBS]
     next
 }
 
-// The counts at a border of the table.
+// The place of the count of job k, JOBS where k names no job that has one.
+fn count_place(k: u16) -> usize
+    ensures { λ r. ⌜ r ≡ countPlace k ⌝ }
+{
+    if k < 1 {
+        return JOBS;
+    }
+    let at = wide(k - 1);
+    if at < JOBS { at } else { JOBS }
+}
+
+// The counts at a border of the table, counted in place.
 fn counts_to(p: Plan, border: usize) -> [u16; JOBS]
     requires { ⌜ border ≤ maxSlots ⌝ }
     ensures { λ r. ⌜ r ≡ countsAt p border ⌝ }
@@ -205,8 +216,10 @@ fn counts_to(p: Plan, border: usize) -> [u16; JOBS]
     let mut i: usize = 0;
     while i < border {
         let name = p.table[i];
-        let next = counted(counts, name);
-        counts = next;
+        let at = count_place(name);
+        if at < JOBS {
+            counts[at] = counts[at] + 1;
+        }
         i += 1;
     }
     counts
