@@ -12,8 +12,8 @@
 extern "C" {
 #endif
 
-/* The room that embed_check asks of `out`, and room for the text of every plan. */
-enum { COATER_CHECK_ROOM = 8448, COATER_PLAN_ROOM = 8192 };
+/* The room that embed_check asks of `out`; room for the text of every plan; room for every output of embed_run. */
+enum { COATER_CHECK_ROOM = 8448, COATER_PLAN_ROOM = 8192, COATER_RUN_ROOM = 16384 };
 
 /* The kinds of report that embed_walk takes; any other byte is taken for COATER_MORE. */
 enum { COATER_NONE = 0, COATER_END = 1, COATER_MORE = 2 };
@@ -35,6 +35,11 @@ uint16_t embed_walk(const uint8_t *text, size_t length, const uint8_t *kinds, si
 /* The check program: writes its whole output for this input at the start of `out` and answers its length. Answers 0
  * and leaves `out` as it was where `room` is less than COATER_CHECK_ROOM. Bytes past the output stay as they were. */
 size_t embed_check(const uint8_t *text, size_t length, uint8_t *out, size_t room);
+
+/* The run program: `text` is a plan and, directly after it, its report lines. Writes the whole output, steps and jobs
+ * or a refusal, at the start of `out` and answers its length. Answers 0 and leaves `out` as it was where the output
+ * does not fit. Bytes past the output stay as they were. The text is gone through twice: to measure, then to write. */
+size_t embed_run(const uint8_t *text, size_t length, uint8_t *out, size_t room);
 
 #ifdef __cplusplus
 }

@@ -11,13 +11,15 @@ use crate::runtime::{kind_byte, Model, Runtime, ROOM};
 /// The side that is compared with the model: outputs of the two programs.
 pub trait Printed {
     fn check(&mut self, text: &[u8]) -> Vec<u8>;
-    /// None where the side has no such call.
-    fn run(&mut self, text: &[u8]) -> Option<Vec<u8>>;
+    fn run(&mut self, text: &[u8]) -> Vec<u8>;
     /// What else the side can be asked about an input; the call that it answered wrong.
     fn further(&mut self, _input: &Input) -> Option<&'static str> {
         None
     }
 }
+
+/// What a lent buffer is filled with, to see what a call leaves as it was.
+const MARK: u8 = 0xee;
 
 /// A runtime in this process, its outputs taken from a buffer.
 pub struct Linked<'a, R> {
@@ -37,23 +39,25 @@ impl<R: Runtime> Printed for Linked<'_, R> {
         self.room[..length].to_vec()
     }
 
-    fn run(&mut self, text: &[u8]) -> Option<Vec<u8>> {
-        let length = self.runtime.run(text, &mut self.room)?;
-        Some(self.room[..length].to_vec())
+    fn run(&mut self, text: &[u8]) -> Vec<u8> {
+        let length = self.runtime.run(text, &mut self.room);
+        self.room[..length].to_vec()
     }
 
-    /// The calls that the speed table is made of: reader, writer, analysis, start and steps.
+    /// The calls that the speed table is made of: reader, writer, analysis, start and steps; and a run without room.
     fn further(&mut self, input: &Input) -> Option<&'static str> {
         let text = &input.check[..];
         let kinds = kinds(&input.run);
-        let mark = 0xee;
-        let (mut ours, mut theirs) = (vec![mark; text.len() + 1], vec![mark; text.len() + 1]);
+        let (mut ours, mut theirs) = (vec![MARK; text.len() + 1], vec![MARK; text.len() + 1]);
         let written = self.runtime.write(text, &mut theirs) == Model.write(text, &mut ours) && ours == theirs;
+        let mut short = vec![MARK; run_output(&input.run).len() - 1];
+        let left = self.runtime.run(&input.run, &mut short) == 0 && short.iter().all(|&byte| byte == MARK);
         let calls = [
             ("read", self.runtime.read(text) == Model.read(text)),
             ("write", written),
             ("analyse", self.runtime.analyse(text) == Model.analyse(text)),
             ("walk", self.runtime.walk(text, &kinds) == Model.walk(text, &kinds)),
+            ("run without room", left),
         ];
         calls.into_iter().find(|(_, same)| !same).map(|(call, _)| call)
     }
@@ -93,8 +97,8 @@ impl Printed for Programs<'_> {
         self.printed("check_plan", text)
     }
 
-    fn run(&mut self, text: &[u8]) -> Option<Vec<u8>> {
-        Some(self.printed("run_plan", text))
+    fn run(&mut self, text: &[u8]) -> Vec<u8> {
+        self.printed("run_plan", text)
     }
 }
 
@@ -106,7 +110,7 @@ pub fn compare(side: &mut impl Printed, seed: u64, count: usize) -> bool {
         let input = input(&mut rng);
         let (check, run) = (check_output(&input.check), run_output(&input.run));
         let same = same(index, "check", &input.check, &check, &side.check(&input.check))
-            && side.run(&input.run).is_none_or(|other| same(index, "run", &input.run, &run, &other));
+            && same(index, "run", &input.run, &run, &side.run(&input.run));
         if !same {
             return false;
         }

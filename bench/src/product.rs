@@ -4,6 +4,7 @@ use crate::runtime::Runtime;
 
 extern "C" {
     fn embed_check(text: *const u8, length: usize, out: *mut u8, room: usize) -> usize;
+    fn embed_run(text: *const u8, length: usize, out: *mut u8, room: usize) -> usize;
     fn embed_read(text: *const u8, length: usize) -> u16;
     fn embed_write(text: *const u8, length: usize, out: *mut u8, room: usize) -> usize;
     fn embed_analyse(text: *const u8, length: usize) -> u16;
@@ -17,6 +18,10 @@ pub struct Product;
 impl Runtime for Product {
     fn check(&self, text: &[u8], out: &mut [u8]) -> usize {
         unsafe { embed_check(text.as_ptr(), text.len(), out.as_mut_ptr(), out.len()) }
+    }
+
+    fn run(&self, text: &[u8], out: &mut [u8]) -> usize {
+        unsafe { embed_run(text.as_ptr(), text.len(), out.as_mut_ptr(), out.len()) }
     }
 
     fn read(&self, text: &[u8]) -> u16 {

@@ -6,10 +6,8 @@ use crate::model::{self, analyse, read_plan, write_plan, Kind, Report, Run};
 pub trait Runtime {
     /// The check program's output for this input, at the start of `out`; its length.
     fn check(&self, text: &[u8], out: &mut [u8]) -> usize;
-    /// The run program's output for this input, at the start of `out`; its length. Not every runtime has this call.
-    fn run(&self, _text: &[u8], _out: &mut [u8]) -> Option<usize> {
-        None
-    }
+    /// The run program's output for this input, at the start of `out`; its length, 0 where it does not fit.
+    fn run(&self, text: &[u8], out: &mut [u8]) -> usize;
     /// Reads a plan; the answer's number.
     fn read(&self, text: &[u8]) -> u16;
     /// Reads a plan and writes it again; the bytes written, 0 for a refusal.
@@ -68,8 +66,12 @@ impl Runtime for Model {
         copied(model::check_output(text), out)
     }
 
-    fn run(&self, text: &[u8], out: &mut [u8]) -> Option<usize> {
-        Some(copied(model::run_output(text), out))
+    fn run(&self, text: &[u8], out: &mut [u8]) -> usize {
+        let output = model::run_output(text);
+        if out.len() < output.len() {
+            return 0;
+        }
+        copied(output, out)
     }
 
     fn read(&self, text: &[u8]) -> u16 {

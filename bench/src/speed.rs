@@ -63,19 +63,16 @@ fn rows(sides: [&dyn Runtime; 2], case: &Case) -> Vec<(&'static str, Pair)> {
     let start = medians(sides, |side| side.walk(black_box(text), &[]).into());
     let walk = medians(sides, |side| side.walk(black_box(text), black_box(&case.kinds)).into());
     let check = medians(sides, |side| side.check(black_box(text), &mut out));
-    let mut rows = vec![
+    let run = medians(sides, |side| side.run(black_box(&case.input), &mut out));
+    vec![
         ("read", read),
         ("write", less(write, read)),
         ("analysis", less(analyse, read)),
         ("start", less(start, read)),
         ("step", less(walk, start).map(|time| time / case.kinds.len() as f64)),
         ("check program", check),
-    ];
-    if sides.iter().all(|side| side.run(&case.input, &mut out).is_some()) {
-        let run = medians(sides, |side| side.run(black_box(&case.input), &mut out).unwrap_or(0));
-        rows.push(("run program", run));
-    }
-    rows
+        ("run program", run),
+    ]
 }
 
 fn less([a, b]: Pair, [c, d]: Pair) -> Pair {

@@ -1,4 +1,4 @@
-/* Prints the peak stack of each call on the plan in the file that is named: each on a thread whose stack is filled first. */
+/* Prints the peak stack of each call on the text in the file that is named, a plan alone or with its reports: each on a thread whose stack is filled first. */
 #include <pthread.h>
 #include <stdio.h>
 #include <string.h>
@@ -40,6 +40,11 @@ static void *checking(void *unused) {
     return unused;
 }
 
+static void *running(void *unused) {
+    embed_run(text, length, out, sizeof out);
+    return unused;
+}
+
 static size_t peak(void *(*call)(void *)) {
     uint8_t *stack = mmap(NULL, STACK, PROT_READ | PROT_WRITE, MAP_PRIVATE | MAP_ANONYMOUS, -1, 0);
     if (stack == MAP_FAILED) {
@@ -74,5 +79,6 @@ int main(int argc, char **argv) {
     printf("embed_analyse %zu\n", peak(analysing) - thread);
     printf("embed_walk %zu\n", peak(walking) - thread);
     printf("embed_check %zu\n", peak(checking) - thread);
+    printf("embed_run %zu\n", peak(running) - thread);
     return 0;
 }

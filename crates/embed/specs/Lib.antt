@@ -1,2 +1,4 @@
 pub mod Embed
 pub mod EmbedLaws
+pub mod Rest
+pub mod RestLaws

@@ -6,11 +6,15 @@ ghost use Rattle.answers.specs.Answer.{numberOf};
 ghost use Rattle.plan_text.specs.Read.{readPlan};
 ghost use Rattle.plan_text.specs.Write.{writeAnswer, writeOut};
 ghost use Rattle.embed.specs.Embed.{bytesWritten, analysed, kindOf, walkFrom, walked};
+ghost use Rattle.lines.specs.Writing.{putFit, placeAfter};
 ghost use Rattle.console.specs.Lists.{checkLength, checkWritten};
+ghost use Rattle.console.specs.Run.{runOutput};
 use answers::Answer;
 use executive::Kind;
 use executive::Report;
 use executive::Run;
+
+mod run;
 
 // The number of the reader's answer: 0, 1, 2 or 3.
 #[no_mangle]
@@ -133,4 +137,17 @@ pub extern "C" fn embed_check(text: &[u8], out: &mut [u8]) -> usize
     ensures { λ _. ⌜ now (out .exit) ≡ checkWritten (now (text .entry)) (now (out .entry)) ⌝ }
 {
     console::check::check_output(text, out)
+}
+
+// The run program's whole output for this input, at the start of `out`: its length. An output that it does not fit is
+// left as it was, and the answer is 0.
+#[no_mangle]
+pub extern "C" fn embed_run(text: &[u8], out: &mut [u8]) -> usize
+    ensures { λ r. ⌜ r ≡ placeAfter 0 (runOutput (now (text .entry))) (now (out .entry)) ⌝ }
+    ensures { λ _. ⌜ now (out .exit) ≡ putFit 0 (runOutput (now (text .entry))) (now (out .entry)) ⌝ }
+{
+    if !run::fits(text, out.len()) {
+        return 0;
+    }
+    run::put_output(text, out)
 }
