@@ -1,9 +1,10 @@
--- Laws of the distinct deadlines, least first: they rise, and the next one above a border is the least of all numbers above it, whatever their order.
+-- Laws of the distinct deadlines, least first: they rise, and those above a border begin with the least of them.
 -- Nothing here is of jobs but their windows; the intervals made of the deadlines are in IntervalLaws.
-use Prim.Native.Nat.{ℕ, suc, _≤_, _<_, min}
-use mathlib.Core.Path.{_≡_, refl, ap, _∙_}
+use Prim.Native.Nat.{ℕ, suc, _≤_, _<_}
+use mathlib.Core.Path.{_≡_, refl}
 use mathlib.Core.Bool.{Bool, true, false, _&&_}
-use mathlib.Core.List.{List, [], _∷_, map}
+use mathlib.Core.Logic.{⊎-elim}
+use mathlib.Core.List.{List, [], _∷_, map, List·Memᴰ, List·Memᴰ·head, List·Memᴰ·tail, List·Memᴰ·cases-cons, List·Memᴰ·not-nil}
 use native.Mathlib.Omega.{arith}
 use lib.ListN.{length, length-map, length-take}
 use borrow.Author.Tests.{lt-ltb, le-ltb, eq-eqb, ne-eqb, ltb-true, leb-true}
@@ -14,7 +15,7 @@ use Rattle.plan.specs.declared.Plan.{Plan}
 use Rattle.plan.specs.Limits.{maxSlots, maxJobs, oneTo}
 use Rattle.plan.specs.Plan.{jobsOf}
 use Rattle.plan.specs.Rules.{windowHolds, windowsHold}
-use Rattle.intervals.specs.Deadlines.{risingDeadlines, Windowed, WithinLimits, Rises, nearer, nextAbove, above}
+use Rattle.intervals.specs.Deadlines.{risingDeadlines, Windowed, WithinLimits, Rises, above}
 use Rattle.intervals.specs.Intervals.{insert, rising, deadlines}
 
 -- ---- what windows that hold give
@@ -52,6 +53,17 @@ pub rises-top : (b : ℕ) (xs : List ℕ) (top : ℕ) → Rises b xs top → b �
 rises-top b [] top r = r
 rises-top b (x ∷ xs) top r = omega (arith, r .0, rises-top x xs top (r .1))
 
+-- each of them is above b, none above top
+pub rises-over : (b : ℕ) (xs : List ℕ) (top x : ℕ) → Rises b xs top → List·Memᴰ x xs → b < x
+rises-over b [] top x r m = absurd (List·Memᴰ·not-nil m)
+rises-over b (y ∷ xs) top x r m =
+    ⊎-elim (λ q. omega (arith, q, r .0)) (λ n. omega (arith, r .0, rises-over y xs top x (r .1) n)) (List·Memᴰ·cases-cons m)
+
+pub rises-most : (b : ℕ) (xs : List ℕ) (top x : ℕ) → Rises b xs top → List·Memᴰ x xs → x ≤ top
+rises-most b [] top x r m = absurd (List·Memᴰ·not-nil m)
+rises-most b (y ∷ xs) top x r m =
+    ⊎-elim (λ q. omega (arith, q, rises-top y xs top (r .1))) (λ n. rises-most y xs top x (r .1) n) (List·Memᴰ·cases-cons m)
+
 insert-rises : (b x : ℕ) (ys : List ℕ) (top : ℕ) → b < x → x ≤ top → Rises b ys top → Rises b (insert x ys) top
 unfolding insert
 insert-rises b x [] top l h r = (l, h)
@@ -88,74 +100,31 @@ pub few-deadlines : (p : Plan) → length (deadlines p) ≤ p .jobs
 few-deadlines p =
     omega (arith, length-rising (map (λ j. j .deadline) (jobsOf p)), length-map (jobsOf p) (λ j. j .deadline), length-take (p .jobs) (p .job))
 
--- ---- the next number above a border
-
-insert-next : (m beyond x : ℕ) (ys : List ℕ) → nextAbove m beyond (insert x ys) ≡ min (if m <? x then x else beyond) (nextAbove m beyond ys)
-unfolding insert nextAbove nearer
-insert-next m beyond x [] = refl
-insert-next m beyond x (y ∷ ys) =
-    let next = nextAbove m beyond ys in
-    by-less x y
-    (λ p. rw (lt-ltb x y p))
-    (λ p. by-equal x y
-    (λ q. rw (le-ltb x y p, eq-eqb x y q, q) (omega arith))
-    (λ q. rw (le-ltb x y p, ne-eqb x y q, insert-next m beyond x ys) (omega arith)))
-
-pub rising-next : (m beyond : ℕ) (xs : List ℕ) → nextAbove m beyond (rising xs) ≡ nextAbove m beyond xs
-unfolding rising nextAbove nearer
-rising-next m beyond [] = refl
-rising-next m beyond (x ∷ xs) = insert-next m beyond x (rising xs) ∙ ap (λ k. min (if m <? x then x else beyond) k) (rising-next m beyond xs)
-
--- ---- of rising numbers, those above a border begin with the next one
+-- ---- of rising numbers, those above a border
 
 above-all : (m b : ℕ) (ys : List ℕ) (top : ℕ) → m ≤ b → Rises b ys top → above m ys ≡ ys
 unfolding above
 above-all m b [] top h r = refl
 above-all m b (y ∷ ys) top h r = rw (lt-ltb m y (omega (arith, r .0)), above-all m y ys top (omega (arith, r .0)) (r .1))
 
-pub next-over : (m b : ℕ) (ys : List ℕ) (top : ℕ) → Rises b ys top → b < nextAbove m (suc top) ys
-unfolding nextAbove nearer
-next-over m b [] top r = omega arith
-next-over m b (y ∷ ys) top r =
-    let later = next-over m y ys top (r .1) in
+-- the least number above m comes first
+pub above-first : (m e b : ℕ) (ys : List ℕ) (top : ℕ) → Rises b ys top → m < e → List·Memᴰ e ys → ((x : ℕ) → List·Memᴰ x ys → m < x → e ≤ x)
+    → above m ys ≡ e ∷ above e ys
+unfolding above
+above-first m e b [] top r l d least = absurd (List·Memᴰ·not-nil d)
+above-first m e b (y ∷ ys) top r l d least =
     by-less m y
-    (λ h. rw (lt-ltb m y h) (omega (arith, r .0)))
-    (λ h. rw (le-ltb m y h) (omega (arith, r .0, rises-top y ys top (r .1))))
+    (λ h.
+    let q : e ≡ y = ⊎-elim (λ s. s) (λ n. absurd (omega (arith, least y (List·Memᴰ·head refl) h, rises-over y ys top e (r .1) n))) (List·Memᴰ·cases-cons d) in
+    rw (q, lt-ltb m y h, le-ltb y y (omega arith), above-all m y ys top (omega arith) (r .1), above-all y y ys top (omega arith) (r .1)))
+    (λ h.
+    let later : List·Memᴰ e ys = ⊎-elim (λ s. absurd (omega arith)) (λ n. n) (List·Memᴰ·cases-cons d) in
+    rw (le-ltb m y h, le-ltb e y (omega arith)) (above-first m e y ys top (r .1) l later (λ x n. least x (List·Memᴰ·tail n))))
 
-pub next-above : (m : ℕ) (ys : List ℕ) (top : ℕ) → m ≤ top → m < nextAbove m (suc top) ys
-unfolding nextAbove nearer
-next-above m [] top h = omega arith
-next-above m (y ∷ ys) top h =
-    let later = next-above m ys top h in
-    by-less m y
-    (λ l. rw (lt-ltb m y l) (omega arith))
-    (λ l. rw (le-ltb m y l) (omega arith))
-
-pub above-next : (m b : ℕ) (ys : List ℕ) (top : ℕ) → m ≤ top → Rises b ys top → nextAbove m (suc top) ys ≤ top
-    → above m ys ≡ nextAbove m (suc top) ys ∷ above (nextAbove m (suc top) ys) ys
-unfolding nextAbove nearer above
-above-next m b [] top low r h = absurd (omega arith)
-above-next m b (y ∷ ys) top low r h =
-    let later = next-over m y ys top (r .1) in
-    by-less m y
-    (λ l.
-    let e : min y (nextAbove m (suc top) ys) ≡ y = omega arith in
-    rw (lt-ltb m y l, e, le-ltb y y (omega arith), above-all m y ys top (omega arith) (r .1), above-all y y ys top (omega arith) (r .1)))
-    (λ l.
-    let h′ : min (suc top) (nextAbove m (suc top) ys) ≤ top = rw (le-ltb m y l) at h in
-    let e : min (suc top) (nextAbove m (suc top) ys) ≡ nextAbove m (suc top) ys = omega arith in
-    let over = next-above m ys top low in
-    rw (le-ltb m y l, e, le-ltb (nextAbove m (suc top) ys) y (omega arith)) (above-next m y ys top low (r .1) (omega arith)))
-
-pub above-none : (m b : ℕ) (ys : List ℕ) (top : ℕ) → Rises b ys top → top < nextAbove m (suc top) ys → above m ys ≡ []
-unfolding nextAbove nearer above
-above-none m b [] top r h = refl
-above-none m b (y ∷ ys) top r h =
-    by-less m y
-    (λ l. absurd (let h′ : top < min y (nextAbove m (suc top) ys) = rw (lt-ltb m y l) at h in omega (arith, rises-top y ys top (r .1))))
-    (λ l.
-    let h′ : top < min (suc top) (nextAbove m (suc top) ys) = rw (le-ltb m y l) at h in
-    rw (le-ltb m y l) (above-none m y ys top (r .1) (omega arith)))
+pub above-none : (m : ℕ) (ys : List ℕ) → ((x : ℕ) → List·Memᴰ x ys → x ≤ m) → above m ys ≡ []
+unfolding above
+above-none m [] low = refl
+above-none m (y ∷ ys) low = rw (le-ltb m y (low y (List·Memᴰ·head refl))) (above-none m ys (λ x n. low x (List·Memᴰ·tail n)))
 
 pub above-zero : (ys : List ℕ) (top : ℕ) → Rises 0 ys top → above 0 ys ≡ ys
 above-zero ys top r = above-all 0 0 ys top (omega arith) r

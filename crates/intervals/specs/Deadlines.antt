@@ -1,7 +1,7 @@
--- The words of deadlines that rise: windows that hold, rising numbers, the next number above a border. The laws are in DeadlineLaws.
-use Prim.Native.Nat.{ℕ, _≤_, _<_, min}
+-- The words of deadlines that rise: windows that hold, rising numbers, those above a border. The laws are in DeadlineLaws.
+use Prim.Native.Nat.{ℕ, _≤_, _<_}
 use mathlib.Core.List.{List, [], _∷_, map}
-use Rattle.words.specs.Words.{if_then_else_, _<?_, _=?_}
+use Rattle.words.specs.Words.{if_then_else_, _<?_}
 use Rattle.plan.specs.declared.Job.{Job}
 use Rattle.plan.specs.declared.Plan.{Plan}
 use Rattle.plan.specs.Limits.{maxSlots, maxJobs}
@@ -29,22 +29,9 @@ abbrev pub Rises : ℕ → List ℕ → ℕ → Type 0
 Rises b [] top = b ≤ top
 Rises b (x ∷ xs) top = (b < x) × Rises x xs top
 
--- x where it is above m and before `next`, else `next`
-unfoldable pub nearer : ℕ → ℕ → ℕ → ℕ → ℕ
-nearer m beyond x next = min (if m <? x then x else beyond) next
-
--- the least of the numbers above m, `beyond` where there is none
-unfoldable pub nextAbove : ℕ → ℕ → List ℕ → ℕ
-nextAbove m beyond [] = beyond
-nextAbove m beyond (x ∷ xs) = nearer m beyond x (nextAbove m beyond xs)
-
 -- the numbers above m
 unfoldable pub above : ℕ → List ℕ → List ℕ
 above m [] = []
 above m (x ∷ xs) =
     let later = above m xs in
     if m <? x then x ∷ later else later
-
--- the least release with that of job j, where its deadline is e
-unfoldable pub earlierRelease : ℕ → Job → ℕ → ℕ
-earlierRelease e j least = if j .deadline =? e then min (j .release) least else least

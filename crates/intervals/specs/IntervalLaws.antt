@@ -59,6 +59,14 @@ deadlines-started N all (j ∷ js) sub w =
     (omega (arith, least-of-job j all (sub j (List·Memᴰ·head refl)), w .0))
     (deadlines-started N all js (λ k m. sub k (List·Memᴰ·tail m)) (w .2))
 
+-- so a deadline has a window that ends there
+pub among-due : (N : ℕ) (js : List Job) → Windowed N js → (e : ℕ) → List·Memᴰ e (risingDeadlines js) → leastRelease e js < e
+among-due N js w e m = started-at js (risingDeadlines js) e (deadlines-started N js js (λ j n. n) w) m
+  where
+    started-at : (js : List Job) (es : List ℕ) (e : ℕ) → Started js es → List·Memᴰ e es → leastRelease e js < e
+    started-at js [] e s m = absurd (List·Memᴰ·not-nil m)
+    started-at js (y ∷ es) e s m = ⊎-elim (λ q. rw q (s .0)) (λ n. started-at js es e (s .1) n) (List·Memᴰ·cases-cons m)
+
 gap-covers : (a b : ℕ) (xs : List Interval) (c : ℕ) → a ≤ b → Covers b xs c → Covers a (gap a b ++ xs) c
 gap-covers a b xs c h rest =
     by-less a b
@@ -128,6 +136,15 @@ deadline-among j (k ∷ js) m =
     (λ e. rw e (insert-here (k .deadline) later))
     (λ n. insert-kept (j .deadline) (k .deadline) later (deadline-among j js n))
     (List·Memᴰ·cases-cons m)
+
+-- where a window ends there is a deadline
+pub due-among : (e : ℕ) (js : List Job) → leastRelease e js < e → List·Memᴰ e (risingDeadlines js)
+unfolding rising leastRelease
+due-among e [] h = absurd (omega arith)
+due-among e (j ∷ js) h =
+    by-equal (j .deadline) e
+    (λ q. rw (← q) (insert-here (j .deadline) (risingDeadlines js)))
+    (λ q. insert-kept e (j .deadline) (risingDeadlines js) (due-among e js (rw (ne-eqb (j .deadline) e q) at h)))
 
 ends-gap : (e a b : ℕ) (xs : List Interval) → List·Memᴰ e (ends xs) → List·Memᴰ e (ends (gap a b ++ xs))
 ends-gap e a b xs m =

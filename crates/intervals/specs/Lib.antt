@@ -1,11 +1,13 @@
 pub mod Intervals
 pub mod Spares
 pub mod Layout
+pub mod ByDeadline
 pub mod Deadlines
 pub mod DeadlineLaws
 pub mod Covers
 pub mod IntervalLaws
 pub mod LayoutLaws
+pub mod ByDeadlineLaws
 pub mod Laid
 pub mod LaidLaws
 pub mod Debt

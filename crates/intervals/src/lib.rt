@@ -1,20 +1,25 @@
 // The intervals of a plan and the spares of its borders. Whether a plan is accepted is judged in acceptance.
 ghost use mathlib.Core.Path.{_≡_};
-ghost use mathlib.Core.List.{[], _∷_, _++_, map};
+ghost use mathlib.Core.List.{[]};
 ghost use Prim.Native.Nat.{_+_, _-_, _≤_, _<_, _^_, max, min};
 ghost use lib.ListN.{take};
 ghost use lib.IntN.{subℕ};
-ghost use Rattle.words.specs.Words.{filled};
 ghost use Rattle.plan.specs.Limits.{maxSlots, maxJobs};
-ghost use Rattle.intervals.specs.Intervals.{maxIntervals, leastRelease, gap, intervals};
+ghost use Rattle.intervals.specs.Intervals.{intervals};
 ghost use Rattle.intervals.specs.Spares.{hiLeft, loLeft};
-ghost use Rattle.intervals.specs.Layout.{listed, placeOf, layoutOf, rowIn, pastIn};
-ghost use Rattle.intervals.specs.Deadlines.{Windowed, nearer, nextAbove, earlierRelease};
-ghost use Rattle.intervals.specs.Laid.{laid, RoomFor, added, allIntervals};
+ghost use Rattle.intervals.specs.Layout.{layoutOf, rowIn, pastIn};
+ghost use Rattle.intervals.specs.Deadlines.{Windowed};
+ghost use Rattle.intervals.specs.Laid.{laid, allIntervals};
 ghost use Rattle.intervals.specs.Debt.{ByHome, room, asked};
+use by_deadline::homes_by;
+use by_deadline::longest_windows;
+use by_deadline::next_deadline;
+use by_deadline::places_by_end;
 use plan::Job;
 use plan::Level;
 use plan::Plan;
+
+mod by_deadline;
 
 // Every deadline ends an interval, and an empty one may stand before each and after the last.
 pub const INTERVALS: usize = 65;
@@ -53,12 +58,6 @@ fn larger(a: u16, b: u16) -> u16
     if a <= b { b } else { a }
 }
 
-fn smaller(a: u16, b: u16) -> u16
-    ensures { λ r. ⌜ r ≡ min a b ⌝ }
-{
-    if a <= b { a } else { b }
-}
-
 // n, at most the limit: how many entries of an array a record's count takes.
 fn capped(n: u16, limit: usize) -> usize
     ensures { λ r. ⌜ r ≡ min n limit ⌝ }
@@ -77,58 +76,6 @@ fn signed(a: u32, b: u32) -> i32
 
 // ---- intervals
 
-// Deadline d where it is above border m and before `next`, else `next`.
-fn nearer_deadline(m: u16, beyond: u16, d: u16, next: u16) -> u16
-    ensures { λ r. ⌜ r ≡ nearer m beyond d next ⌝ }
-{
-    if m < d {
-        smaller(d, next)
-    } else {
-        smaller(beyond, next)
-    }
-}
-
-// The least of the first n jobs' deadlines above border m, `beyond` where there is none.
-fn next_deadline(job: [Job; plan::JOBS], n: usize, m: u16, beyond: u16) -> u16
-    requires { ⌜ n ≤ maxJobs ⌝ }
-    ensures { λ r. ⌜ r ≡ nextAbove m beyond (map (λ j. j .deadline) (take n job)) ⌝ }
-{
-    let mut next = beyond;
-    let mut i = n;
-    while 0 < i {
-        i -= 1;
-        let j = job[i];
-        next = nearer_deadline(m, beyond, j.deadline, next);
-    }
-    next
-}
-
-// The least release with job j's, where its deadline is e.
-fn earlier_release(e: u16, j: Job, least: u16) -> u16
-    ensures { λ r. ⌜ r ≡ earlierRelease e j least ⌝ }
-{
-    if j.deadline == e {
-        smaller(j.release, least)
-    } else {
-        least
-    }
-}
-
-// The least release of the first n jobs with deadline e, which is e where there is none.
-fn least_release(job: [Job; plan::JOBS], n: usize, e: u16) -> u16
-    requires { ⌜ n ≤ maxJobs ⌝ }
-    ensures { λ r. ⌜ r ≡ leastRelease e (take n job) ⌝ }
-{
-    let mut least = e;
-    let mut i = n;
-    while 0 < i {
-        i -= 1;
-        let j = job[i];
-        least = earlier_release(e, j, least);
-    }
-    least
-}
-
 // A layout with no intervals and no job at home.
 fn empty_layout() -> Layout
     ensures { λ r. ⌜ r ≡ laid [] ⌝ }
@@ -143,54 +90,48 @@ fn empty_layout() -> Layout
     }
 }
 
-// With one interval more.
-fn with_interval(l: Layout, start: u16, end: u16) -> Layout
-    requires { ⌜ RoomFor l (record { start = start; end = end } ∷ []) ⌝ }
-    ensures { λ r. ⌜ r ≡ laid (listed l ++ record { start = start; end = end } ∷ []) ⌝ }
-{
-    let place = l.count as usize;
-    let mut next = l;
-    next.interval[place] = Interval {
-        start: start,
-        end: end,
-    };
-    next.count = l.count + 1;
-    next
-}
-
-// With the empty interval from a to b, where there is a gap.
-fn with_gap(l: Layout, a: u16, b: u16) -> Layout
-    requires { ⌜ RoomFor l (gap a b) ⌝ }
-    ensures { λ r. ⌜ r ≡ laid (listed l ++ gap a b) ⌝ }
-{
-    if a < b { with_interval(l, a, b) } else { l }
-}
-
-// With the interval that deadline e ends, after the end `prev`, and the gap before it.
-fn with_deadline(l: Layout, job: [Job; plan::JOBS], n: usize, prev: u16, e: u16) -> Layout
-    requires { ⌜ (n ≤ maxJobs) × RoomFor l (added (take n job) prev e) ⌝ }
-    ensures { λ r. ⌜ r ≡ laid (listed l ++ added (take n job) prev e) ⌝ }
-{
-    let start = larger(prev, least_release(job, n, e));
-    let gapped = with_gap(l, prev, start);
-    with_interval(gapped, start, e)
-}
-
-// The intervals of the first n jobs, their windows holding: deadline by deadline, and the gap after the last.
+// The intervals of the first n jobs, their windows holding: deadline by deadline, each after the gap before it, and the gap after the last.
 fn intervals_of(job: [Job; plan::JOBS], n: usize, slots: u16) -> Layout
     requires { ⌜ (n ≤ maxJobs) × (slots ≤ maxSlots) × Windowed slots (take n job) ⌝ }
     ensures { λ r. ⌜ r ≡ laid (allIntervals (take n job) slots) ⌝ }
 {
-    let beyond = slots + 1;
-    let mut l = empty_layout();
+    let longest = longest_windows(job, n);
+    let blank = Interval { start: 0, end: 0 };
+    let mut interval = [blank; INTERVALS];
+    let mut count: usize = 0;
     let mut prev: u16 = 0;
-    let mut e = next_deadline(job, n, prev, beyond);
+    let mut e = next_deadline(&longest, prev, slots);
     while e <= slots {
-        l = with_deadline(l, job, n, prev, e);
+        let length = longest[plan::wide(e)];
+        let start = larger(prev, e - length);
+        if prev < start {
+            interval[count] = Interval {
+                start: prev,
+                end: start,
+            };
+            count += 1;
+        }
+        interval[count] = Interval {
+            start: start,
+            end: e,
+        };
+        count += 1;
         prev = e;
-        e = next_deadline(job, n, prev, beyond);
+        e = next_deadline(&longest, prev, slots);
     }
-    with_gap(l, prev, slots)
+    if prev < slots {
+        interval[count] = Interval {
+            start: prev,
+            end: slots,
+        };
+        count += 1;
+    }
+    let home = [INTERVALS as u16; plan::JOBS];
+    Layout {
+        count: count as u16,
+        interval: interval,
+        home: home,
+    }
 }
 
 // The intervals of a plan; a plan whose limits or windows are broken has none.
@@ -205,45 +146,15 @@ fn plan_intervals(p: Plan) -> Layout
     intervals_of(job, n, p.slots)
 }
 
-// The place of the first interval that ends at e, the count where there is none.
-fn place_of(l: Layout, e: u16) -> u16
-    ensures { λ r. ⌜ r ≡ placeOf e (listed l) ⌝ }
-{
-    let count = capped(l.count, INTERVALS);
-    let interval = l.interval;
-    let mut i: usize = 0;
-    while i < count {
-        let x = interval[i];
-        if x.end == e {
-            return i as u16;
-        }
-        i += 1;
-    }
-    i as u16
-}
-
-// The home of each job; an entry beyond the jobs has none.
-fn homes_of(l: Layout, job: [Job; plan::JOBS], n: usize) -> [u16; plan::JOBS]
-    requires { ⌜ n ≤ maxJobs ⌝ }
-    ensures { λ r. ⌜ r ≡ filled maxJobs maxIntervals (map (λ j. placeOf (j .deadline) (listed l)) (take n job)) ⌝ }
-{
-    let mut home = [INTERVALS as u16; plan::JOBS];
-    let mut i: usize = 0;
-    while i < n {
-        let j = job[i];
-        home[i] = place_of(l, j.deadline);
-        i += 1;
-    }
-    home
-}
-
 // The intervals of a plan with the homes of its jobs, worked out once.
 pub fn layout_of(p: Plan) -> Layout
     ensures { λ r. ⌜ r ≡ layoutOf p ⌝ }
 {
     let bare = plan_intervals(p);
+    let interval = bare.interval;
+    let place = places_by_end(interval, capped(bare.count, INTERVALS));
     let job = p.job;
-    let home = homes_of(bare, job, capped(p.jobs, plan::JOBS));
+    let home = homes_by(&place, job, capped(p.jobs, plan::JOBS));
     let mut l = bare;
     l.home = home;
     l

@@ -1,4 +1,4 @@
--- `intervals::homes_of` meets its contract. The loop's invariant: the homes of the first i jobs stand, the others have none.
+-- `intervals::by_deadline::homes_by` meets its contract. The loop's invariant: the homes of the first i jobs stand, the others have none.
 use Prim.Native.Nat.{_-_, _≤_}
 use mathlib.Core.Path.{_≡_, refl}
 use mathlib.Core.List.{map}
@@ -10,16 +10,16 @@ use Rattle.words.specs.FilledLaws.{filled-map}
 use Rattle.plan.specs.Limits.{maxJobs}
 use Rattle.plan.specs.Plan.{blankJob}
 use Rattle.intervals.specs.Intervals.{maxIntervals}
-use Rattle.intervals.specs.Layout.{listed, placeOf}
+use Rattle.intervals.specs.ByDeadline.{entryFor}
 use borrow.Author.Needs.{needs}
-use Rattle.intervals.proofs.homes_of.Statement.{statement}
-use Rattle.intervals.proofs.homes_of.Tie as tie
+use Rattle.intervals.proofs.by_deadline.homes_by.Statement.{statement}
+use Rattle.intervals.proofs.by_deadline.homes_by.Tie as tie
 
 abbrev Inv-loop : tie.InvT-loop
-Inv-loop l n job home₀ i₀ home i = (i ≤ n) × (home ≡ filled maxJobs maxIntervals (map (λ j. placeOf (j .deadline) (listed l)) (take i job)))
+Inv-loop place n job home₀ i₀ home i = (i ≤ n) × (home ≡ filled maxJobs maxIntervals (map (λ j. entryFor place (j .deadline)) (take i job)))
 
 abbrev μ-loop : tie.MeasureT-loop
-μ-loop l n job home₀ i₀ home i = n - i
+μ-loop place n job home₀ i₀ home i = n - i
 
 size : (c : tie.Start Inv-loop μ-loop) → length (c .args .t2) ≡ maxJobs
 size c = search (needs, long)
@@ -36,8 +36,8 @@ mul-j c = search needs
 array-copy-out-j : tie.Need-array-copy-out-j Inv-loop μ-loop
 array-copy-out-j c = search needs
 
-place-of-requires : tie.Need-place-of-requires Inv-loop μ-loop
-place-of-requires c κs = search needs
+entry-for-requires : tie.Need-entry-for-requires Inv-loop μ-loop
+entry-for-requires c κs = search needs
 
 mul-home : tie.Need-mul-home Inv-loop μ-loop
 mul-home c = search needs
@@ -56,7 +56,7 @@ loop-again c =
     let l = c .before .before .before .loop in
     let start = c .before .before .before .before in
     let a = start .args in
-    (search needs, rw (l .inv .1, c .place-of .ensures) (filled-map (λ j. placeOf (j .deadline) (listed (a .l))) maxJobs maxIntervals (a .t2) (l .i) blankJob (omega (arith, size start)) (search needs)))
+    (search needs, rw (l .inv .1, c .entry-for .ensures) (filled-map (λ j. entryFor (a .place .now) (j .deadline)) maxJobs maxIntervals (a .t2) (l .i) blankJob (omega (arith, size start)) (search needs)))
 
 returns : tie.Need-returns Inv-loop μ-loop
 returns c =
@@ -64,8 +64,8 @@ returns c =
     let e : l .i ≡ c .before .before .args .n = omega arith in
     rw e at (l .inv .1)
 
-pub homes-of-spec : {M : Type 1} → statement M
-homes-of-spec =
+pub homes-by-spec : {M : Type 1} → statement M
+homes-by-spec =
     tie.close
     (tie.spec
     Inv-loop
@@ -74,7 +74,7 @@ homes-of-spec =
     loop-holds
     mul-j
     array-copy-out-j
-    place-of-requires
+    entry-for-requires
     mul-home
     array-write-home
     add-i
