@@ -8,5 +8,6 @@ pub mod Reports
 pub mod Console
 pub mod LineLaws
 pub mod SessionLaws
+pub mod HeldLaws
 pub mod Lists
 pub mod Turns

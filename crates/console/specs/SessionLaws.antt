@@ -63,11 +63,11 @@ module _ (r : Run) (report : Report) (h : accepted (step r report .answer) ≡ t
   unfolding reportAnswer
   step-goes = both-accept (canGoOn r) _ answered .0
 
-  step-on : step r report .run .t ≡ r .t + 1
+  pub step-on : step r report .run .t ≡ r .t + 1
   unfolding step nextRun refreshed judged expired reported
   step-on = rw answered
 
-  step-early : r .t < 512
+  pub step-early : r .t < 512
   unfolding reportAnswer canGoOn coherent wellFormed check2 accepted
   step-early =
       let go = both-accept (canGoOn r) _ answered .0 in
@@ -275,10 +275,10 @@ module _ (c : Console) (s u : List ℕ) where
 
 -- a waiting console at the end of input prints what is still to be printed
 module _ (c : Console) (s : List ℕ) where
-  started-goes : (used line : ℕ) (p : Plan) → startedEvent c used line (start p) .waiting ≡ false
+  pub started-goes : (used line : ℕ) (p : Plan) → startedEvent c used line (start p) .waiting ≡ false
   started-goes used line p = by-test (accepted (start p .answer)) (λ h. rw h) (λ h. rw h)
 
-  report-goes : (o : ReportAt) → reportEvent c o .waiting ≡ false
+  pub report-goes : (o : ReportAt) → reportEvent c o .waiting ≡ false
   report-goes (ReportAt.Got report place) = by-test (accepted (step (c .run) report .answer)) (λ h. rw h) (λ h. rw h)
   report-goes ReportAt.Bad = refl
 
@@ -344,12 +344,12 @@ settled-sound (suc turns) c s u g =
     }))
 
 -- how many events there can be before it waits
-abbrev todoIn : Stage → List ℕ → ℕ
+abbrev pub todoIn : Stage → List ℕ → ℕ
 todoIn Reading s = length s + 1
 todoIn Running s = length s
 todoIn Stopped s = 0
 
-abbrev todo : Console → List ℕ → ℕ
+abbrev pub todo : Console → List ℕ → ℕ
 todo c s = todoIn (c .stage) s
 
 module _ (c : Console) (s : List ℕ) where
@@ -378,7 +378,7 @@ module _ (c : Console) (s : List ℕ) where
       (λ h. rw h (report-less (λ z. ⊎-elim (λ l. omega arith) (λ l. omega arith) (either-ready (lineLength s) (length s) h)) (reportAt s) refl))
       (λ h. absurd (false≢true (sym (rw h at w))))
 
-  event-less : event c s .waiting ≡ false → todo (event c s .console) (drop (event c s .used) s) < todo c s
+  pub event-less : event c s .waiting ≡ false → todo (event c s .console) (drop (event c s .used) s) < todo c s
   unfolding event
   event-less w = pick (c .stage) w
     where
@@ -422,7 +422,7 @@ session-sound c left (piece ∷ pieces) g w =
     ∙ sym (e .says)
     ∙ ap (outputFrom c) (append-assoc left piece (together pieces))
 
-fresh-waits : event freshConsole [] .waiting ≡ true
+pub fresh-waits : event freshConsole [] .waiting ≡ true
 unfolding event planEvent planPrefix nextPlan field valueIn lineLength accepted
 fresh-waits = refl
 
