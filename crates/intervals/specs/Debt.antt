@@ -1,15 +1,17 @@
 -- The words in which a row is worked out in naturals: from last to first a debt is carried, what the intervals from here on ask beyond their room.
--- The spares themselves are defined in Spares; that both agree is proved in RowLaws.
+-- The spares themselves are defined in Spares; that both agree is proved in RowLaws and DebtLaws.
 use Prim.Native.Nat.{ℕ, suc, _+_, _-_, _*_, _≤_, _<_, max}
+use mathlib.Core.Bool.{Bool}
 use mathlib.Core.Path.{_≡_}
-use mathlib.Core.List.{List, [], _∷_, _++_}
+use mathlib.Core.List.{List, [], _∷_, _++_, map}
 use lib.IntN.{ℤ, pos}
 use lib.ListN.{getD, set, length, take, drop, replicate}
-use Rattle.words.specs.Words.{if_then_else_, _≤?_, _<?_}
+use Rattle.words.specs.Words.{if_then_else_, _≤?_, _<?_, countUp}
 use Rattle.plan.specs.Limits.{maxJobs}
 use Rattle.intervals.specs.declared.Interval.{Interval}
+use Rattle.intervals.specs.declared.Layout.{Layout}
 use Rattle.intervals.specs.Intervals.{maxIntervals}
-use Rattle.intervals.specs.Layout.{workAt, sparesFrom}
+use Rattle.intervals.specs.Layout.{listed, workAt, sparesFrom, pastIn}
 
 -- the most work that one job's number holds, and that one place can have
 abbrev pub maxWork : ℕ
@@ -17,6 +19,10 @@ maxWork = 65535
 
 abbrev pub maxPlaceWork : ℕ
 maxPlaceWork = maxJobs * maxWork
+
+-- the largest number that a sum's type holds
+abbrev pub maxSum : ℕ
+maxSum = 4294967295
 
 -- what an interval has left at border t
 abbrev pub room : ℕ → Interval → ℕ
@@ -26,19 +32,37 @@ room t x = x .end - max (x .start) t
 unfoldable pub asked : ℕ → Interval → ℕ → ℕ → ℕ
 asked t x work debt = if x .end ≤? t then 0 else (work + debt)
 
--- the debt of the intervals from place i on
-unfoldable pub debtFrom : ℕ → ℕ → List ℕ → List ℕ → List Interval → ℕ
-debtFrom t i hs ws [] = 0
-debtFrom t i hs ws (x ∷ xs) = asked t x (workAt i hs ws) (debtFrom t (suc i) hs ws xs) - room t x
+-- the debt of the intervals from place i on, `work` being that of each place
+unfoldable pub debtFrom : ℕ → ℕ → (ℕ → ℕ) → List Interval → ℕ
+debtFrom t i work [] = 0
+debtFrom t i work (x ∷ xs) = asked t x (work i) (debtFrom t (suc i) work xs) - room t x
+
+-- the work of each place: by the jobs' homes, and by sums
+abbrev pub ofJobs : List ℕ → List ℕ → ℕ → ℕ
+ofJobs hs ws i = workAt i hs ws
+
+abbrev pub ofSums : List ℕ → ℕ → ℕ
+ofSums sums i = getD sums i 0
+
+-- at border t the current interval of a layout is in debt
+unfoldable pub inDebt : Layout → ℕ → List ℕ → Bool
+inDebt l t sums = 0 <? debtFrom t (pastIn l t) (ofSums sums) (drop (pastIn l t) (listed l))
 
 -- no place has more than the bound
 abbrev pub SumsBelow : ℕ → List ℕ → Type 0
 SumsBelow bound sums = (i : ℕ) → i < maxIntervals → getD sums i 0 ≤ bound
 
--- the sums of work by home
-pub record ByHome (hs ws sums : List ℕ) : Type 0 where
-  pub at : (i : ℕ) → i < maxIntervals → getD sums i 0 ≡ workAt i hs ws
-  pub small : SumsBelow maxPlaceWork sums
+-- the sums of work by home, one for each place
+unfoldable pub sumsByHome : List ℕ → List ℕ → List ℕ
+sumsByHome hs ws = map (ofJobs hs ws) (countUp 0 maxIntervals)
+
+-- these are those sums, and they are small
+abbrev pub ByHome : List ℕ → List ℕ → List ℕ → Type 0
+ByHome hs ws sums = (sums ≡ sumsByHome hs ws) × SumsBelow maxPlaceWork sums
+
+-- the sums with some work taken from a place, not below 0; a place beyond the last changes nothing
+unfoldable pub takenFrom : List ℕ → ℕ → ℕ → List ℕ
+takenFrom sums place work = if place <? maxIntervals then set sums place (getD sums place 0 - work) else sums
 
 -- the sums with the work of one more job; a home beyond the last place counts nowhere
 unfoldable pub withWork : List ℕ → ℕ → ℕ → List ℕ
@@ -55,6 +79,6 @@ pub record SumsSoFar (hs ws sums : List ℕ) (k : ℕ) : Type 0 where
 pub record RowSoFar (t n : ℕ) (hs ws : List ℕ) (xs : List Interval) (row : List ℤ) (debt i : ℕ) : Type 0 where
   pub size : length row ≡ maxIntervals
   pub within : i ≤ n
-  pub owed : debt ≡ debtFrom t i hs ws (drop i (take n xs))
+  pub owed : debt ≡ debtFrom t i (ofJobs hs ws) (drop i (take n xs))
   pub small : debt ≤ (n - i) * maxPlaceWork
   pub made : drop i row ≡ sparesFrom t i hs ws (drop i (take n xs)) ++ replicate (maxIntervals - n) (pos 0)

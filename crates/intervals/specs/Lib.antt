@@ -12,3 +12,4 @@ pub mod Laid
 pub mod LaidLaws
 pub mod Debt
 pub mod RowLaws
+pub mod DebtLaws

@@ -1,6 +1,6 @@
 -- A row worked out with a debt is the row of spares, and the sums by home are the work of the places. The words are in Debt;
 -- that a layout's row is the plan's stands in LayoutLaws.
-use Prim.Native.Nat.{ℕ, suc, _+_, _-_, _≤_, _<_}
+use Prim.Native.Nat.{ℕ, suc, _+_, _-_, _*_, _≤_, _<_}
 use mathlib.Core.Path.{_≡_, refl, sym, ap, _∙_}
 use mathlib.Core.Bool.{Bool, true, false}
 use mathlib.Core.List.{List, [], _∷_}
@@ -8,22 +8,38 @@ use native.Mathlib.Omega.{arith}
 use native.Mathlib.Numerals.{add-one}
 use borrow.Author.Tests.{le-leb, lt-leb, lt-ltb, le-ltb, eq-eqb, ne-eqb}
 use lib.IntN.{ℤ, pos, negsuc, subℕ}
-use lib.ListN.{getD, set, length, length-set, take, drop, replicate, getD-replicate, length-replicate, drop-of-length-le}
-use lib.Seq.{length-take-le, getD-set-same, getD-set-other, drop-cons}
-use Rattle.words.specs.Words.{if_then_else_, _≤?_, _<?_, _=?_, filled}
+use lib.ListN.{getD, set, length, length-set, length-map, take, drop, replicate, getD-replicate, length-replicate, drop-of-length-le}
+use lib.Seq.{ext-getD, length-take-le, getD-set-same, getD-set-other, drop-cons}
+use Rattle.words.specs.Words.{if_then_else_, _≤?_, _<?_, _=?_, countUp, filled}
 use Rattle.words.specs.Cases.{by-less, by-equal}
 use Rattle.words.specs.ListLaws.{taken-from}
 use Rattle.words.specs.PartLaws.{drop-replicate, drop-set}
 use Rattle.words.specs.BackLaws.{back-start}
 use Rattle.words.specs.Difference.{Is, is-pos, is-sub, is-add, is-as, is-one}
 use Rattle.plan.specs.Limits.{maxJobs}
+use Rattle.plan.specs.CountLaws.{countUp-length, countUp-at}
 use Rattle.intervals.specs.declared.Interval.{Interval}
 use Rattle.intervals.specs.Intervals.{maxIntervals}
 use Rattle.intervals.specs.Spares.{atMost0, nextSpare, spare}
 use Rattle.intervals.specs.Layout.{blankInterval, workAt, sparesFrom}
-use Rattle.intervals.specs.Debt.{maxWork, room, asked, debtFrom, ByHome, withWork, SumsSoFar, RowSoFar}
+use Rattle.intervals.specs.Debt.{maxWork, room, asked, debtFrom, ofJobs, sumsByHome, ByHome, withWork, SumsSoFar, RowSoFar}
 
 -- ---- the sums of work by home
+
+pub sums-size : (hs ws : List ℕ) → length (sumsByHome hs ws) ≡ maxIntervals
+unfolding sumsByHome
+sums-size hs ws = length-map (countUp 0 maxIntervals) (ofJobs hs ws) ∙ countUp-length 0 maxIntervals
+
+-- the sum of a place is the work at home there
+pub sum-at : (hs ws sums : List ℕ) (i : ℕ) → sums ≡ sumsByHome hs ws → i < maxIntervals → getD sums i 0 ≡ workAt i hs ws
+unfolding sumsByHome
+sum-at hs ws sums i e h = let z : 0 + i ≡ i = omega arith in rw e (countUp-at (ofJobs hs ws) 0 0 maxIntervals i h ∙ ap (ofJobs hs ws) z)
+
+-- sums that are so at each place are those
+pub sums-are : (hs ws sums : List ℕ) → length sums ≡ maxIntervals → ((i : ℕ) → i < maxIntervals → getD sums i 0 ≡ workAt i hs ws) → sums ≡ sumsByHome hs ws
+sums-are hs ws sums size at =
+    ext-getD 0 sums (sumsByHome hs ws) (size ∙ sym (sums-size hs ws))
+    (λ i h. let l : i < maxIntervals = rw size at h in at i l ∙ sym (sum-at hs ws (sumsByHome hs ws) i refl l))
 
 pub sums-start : (hs ws : List ℕ) → SumsSoFar hs ws (replicate maxIntervals 0) 0
 sums-start hs ws = record {
@@ -77,13 +93,24 @@ sums-more hs ws sums next k s l lh lw small e = rw e (record {
     split : (i : ℕ) → workAt i (drop k hs) (drop k ws) ≡ (if getD hs k 0 =? i then getD ws k 0 else 0) + workAt i (drop (k + 1) hs) (drop (k + 1) ws)
     split i = rw (drop-cons hs k 0 (omega arith), drop-cons ws k 0 (omega arith), add-one k)
 
-pub sums-end : (hs ws sums : List ℕ) (k : ℕ) → SumsSoFar hs ws sums k → maxJobs ≤ k → length hs ≡ maxJobs → ByHome hs ws sums
+pub sums-end : (hs ws sums : List ℕ) (k : ℕ) → SumsSoFar hs ws sums k → maxJobs ≤ k → length hs ≡ maxJobs → sums ≡ sumsByHome hs ws
 unfolding workAt
 sums-end hs ws sums k s l lh =
     let e : k ≡ maxJobs = omega (arith, s .within) in
     let d : drop k hs ≡ [] = drop-of-length-le hs {i = k} (omega arith) in
     let w : (i : ℕ) → i < maxIntervals → getD sums i 0 + workAt i [] (drop k ws) ≡ workAt i hs ws = rw d at (s .whole) in
-    record { at = λ i h. omega (arith, w i h); small = λ i h. omega (arith, s .small i h) }
+    sums-are hs ws sums (s .size) (λ i h. omega (arith, w i h))
+
+-- no place has more than all jobs' most
+work-most : (i : ℕ) (hs ws : List ℕ) → ((k : ℕ) → k < length ws → getD ws k 0 ≤ maxWork) → workAt i hs ws ≤ length ws * maxWork
+unfolding workAt
+work-most i [] ws small = omega arith
+work-most i (h ∷ hs) [] small = omega arith
+work-most i (h ∷ hs) (w ∷ ws) small =
+    omega (arith, at-most (h =? i) w maxWork (small 0 (omega arith)), work-most i hs ws (λ k l. small (suc k) (omega arith)))
+
+pub by-home : (hs ws sums : List ℕ) → sums ≡ sumsByHome hs ws → length ws ≡ maxJobs → ((k : ℕ) → k < maxJobs → getD ws k 0 ≤ maxWork) → ByHome hs ws sums
+by-home hs ws sums e n small = (e, λ i h. rw (sum-at hs ws sums i e h) (omega (arith, work-most i hs ws (λ k l. small k (omega arith)))))
 
 -- ---- a spare by room and debt
 
@@ -109,17 +136,17 @@ spare-is t x work debt next h =
     (λ l. rw (le-leb (x .end) t l) (is-as (is-pos 0) (omega arith)))
 
 -- the debt is what the smaller of (next spare, 0) takes away
-pub debt-is : (t i : ℕ) (hs ws : List ℕ) (xs : List Interval) → Is (atMost0 (nextSpare (sparesFrom t i hs ws xs))) 0 (debtFrom t i hs ws xs)
+pub debt-is : (t i : ℕ) (hs ws : List ℕ) (xs : List Interval) → Is (atMost0 (nextSpare (sparesFrom t i hs ws xs))) 0 (debtFrom t i (ofJobs hs ws) xs)
 unfolding sparesFrom debtFrom
 debt-is t i hs ws [] = omega arith
-debt-is t i hs ws (x ∷ xs) = lowered (spare-is t x (workAt i hs ws) (debtFrom t (suc i) hs ws xs) (nextSpare (sparesFrom t (suc i) hs ws xs)) (debt-is t (suc i) hs ws xs))
+debt-is t i hs ws (x ∷ xs) = lowered (spare-is t x (workAt i hs ws) (debtFrom t (suc i) (ofJobs hs ws) xs) (nextSpare (sparesFrom t (suc i) hs ws xs)) (debt-is t (suc i) hs ws xs))
 
 -- so a row is the spare of its first interval, made of room and what is asked, and the row of the others
 pub spares-step : (t i : ℕ) (hs ws : List ℕ) (x : Interval) (xs : List Interval)
-    → sparesFrom t i hs ws (x ∷ xs) ≡ subℕ (room t x) (asked t x (workAt i hs ws) (debtFrom t (suc i) hs ws xs)) ∷ sparesFrom t (suc i) hs ws xs
+    → sparesFrom t i hs ws (x ∷ xs) ≡ subℕ (room t x) (asked t x (workAt i hs ws) (debtFrom t (suc i) (ofJobs hs ws) xs)) ∷ sparesFrom t (suc i) hs ws xs
 unfolding sparesFrom
 spares-step t i hs ws x xs =
-    let d = debtFrom t (suc i) hs ws xs in
+    let d = debtFrom t (suc i) (ofJobs hs ws) xs in
     let later : List ℤ = sparesFrom t (suc i) hs ws xs in
     ap (λ (z : ℤ). z ∷ later) (is-one (spare-is t x (workAt i hs ws) d (nextSpare later) (debt-is t (suc i) hs ws xs)) (is-sub (room t x) (asked t x (workAt i hs ws) d)) (omega arith))
 
@@ -150,13 +177,13 @@ module _ (t n : ℕ) (hs ws : List ℕ) (xs : List Interval) (few : n ≤ maxInt
   unfolding debtFrom
   row-more sums row debt j free ask debt′ z s b f a e q =
       let here : drop j (take n xs) ≡ getD xs j blankInterval ∷ drop (suc j) (take n xs) = taken-from xs n j blankInterval (omega arith) (s .within) in
-      let work : getD sums j 0 ≡ workAt j hs ws = b .at j (omega (arith, s .within)) in
-      let asks : ask ≡ asked t (getD xs j blankInterval) (workAt j hs ws) (debtFrom t (suc j) hs ws (drop (suc j) (take n xs))) = rw (a, work, s .owed) in
+      let work : getD sums j 0 ≡ workAt j hs ws = sum-at hs ws sums j (b .0) (omega (arith, s .within)) in
+      let asks : ask ≡ asked t (getD xs j blankInterval) (workAt j hs ws) (debtFrom t (suc j) (ofJobs hs ws) (drop (suc j) (take n xs))) = rw (a, work, s .owed) in
       record {
         size = length-set row j z ∙ s .size;
         within = omega (arith, s .within);
         owed = rw (q, here, f, asks);
-        small = omega (arith, asked-most t (getD xs j blankInterval) (getD sums j 0) debt, b .small j (omega (arith, s .within)), s .small, s .within, a, q);
+        small = omega (arith, asked-most t (getD xs j blankInterval) (getD sums j 0) debt, b .1 j (omega (arith, s .within)), s .small, s .within, a, q);
         made = rw (drop-set row j z (pos 0) (omega (arith, s .within, s .size)), s .made, here, spares-step, ← asks, ← f, ← e);
       }
 

@@ -10,16 +10,18 @@ ghost use Rattle.intervals.specs.Spares.{hiLeft, loLeft};
 ghost use Rattle.intervals.specs.Layout.{layoutOf, rowIn, pastIn};
 ghost use Rattle.intervals.specs.Deadlines.{Windowed};
 ghost use Rattle.intervals.specs.Laid.{laid, allIntervals};
-ghost use Rattle.intervals.specs.Debt.{ByHome, room, asked};
+ghost use Rattle.intervals.specs.Debt.{room, asked};
 use by_deadline::homes_by;
 use by_deadline::longest_windows;
 use by_deadline::next_deadline;
 use by_deadline::places_by_end;
+use debt::work_by_home;
 use plan::Job;
 use plan::Level;
 use plan::Plan;
 
 mod by_deadline;
+pub mod debt;
 
 // Every deadline ends an interval, and an empty one may stand before each and after the last.
 pub const INTERVALS: usize = 65;
@@ -198,22 +200,6 @@ pub fn lo_left(j: Job, live: bool, given: u16) -> u16
     ensures { λ r. ⌜ r ≡ loLeft j live given ⌝ }
 {
     if live { left(j.lo, given) } else { 0 }
-}
-
-// The work at home in each place, in one pass over the jobs; a home beyond the last place counts nowhere.
-fn work_by_home(home: [u16; plan::JOBS], work: [u16; plan::JOBS]) -> [u32; INTERVALS]
-    ensures { λ r. ⌜ ByHome home work r ⌝ }
-{
-    let mut sums = [0u32; INTERVALS];
-    let mut k: usize = 0;
-    while k < plan::JOBS {
-        let place = plan::wide(home[k]);
-        if place < INTERVALS {
-            sums[place] += work[k] as u32;
-        }
-        k += 1;
-    }
-    sums
 }
 
 // What an interval has left at border t.

@@ -1,19 +1,20 @@
 -- `intervals::row_of` meets its contract. The loop's invariant: the row from place i on is made, and the debt is that of the intervals from there on.
-use Prim.Native.Nat.{ℕ, _+_, _≤_, _-_, _*_}
+use Prim.Native.Nat.{ℕ, _+_, _≤_, _<_, _-_, _*_}
 use mathlib.Core.Path.{_≡_, _∙_}
 use lib.ListN.{length, getD, set}
 use mathlib.Core.List.{List}
 use native.Mathlib.Omega.{arith}
-use mir.Syntax.{w32}
-use mir.Val.{toZ, ofZ}
+use mir.Syntax.{w16, w32}
+use mir.Val.{Fits, toZ, ofZ}
 use mir.Facts.{toZ-ofZ}
 use borrow.Author.Needs.{needs}
 use Rattle.words.specs.ListLaws.{long}
+use Rattle.plan.specs.Limits.{maxJobs}
 use Rattle.intervals.specs.Intervals.{maxIntervals}
 use Rattle.intervals.specs.Layout.{blankInterval, rowIn}
 use Rattle.words.specs.PartLaws.{take-min}
 use Rattle.intervals.specs.Debt.{maxPlaceWork, ByHome, RowSoFar}
-use Rattle.intervals.specs.RowLaws.{row-start, row-turn, row-end, asked-most}
+use Rattle.intervals.specs.RowLaws.{by-home, row-start, row-turn, row-end, asked-most}
 use Rattle.intervals.proofs.row_of.Statement.{statement}
 use Rattle.intervals.proofs.row_of.Tie as tie
 
@@ -26,6 +27,13 @@ abbrev μ-loop : tie.MeasureT-loop
 
 size : (c : tie.Start Inv-loop μ-loop) → length (c .args .l .interval) ≡ maxIntervals
 size c = search (needs, long)
+
+-- the sums are those of the jobs, and small
+sums-of : (c : tie.After-work-by-home Inv-loop μ-loop) → ByHome (c .before .before .args .l .home) (c .before .before .args .work) (c .work-by-home .result)
+sums-of c =
+    let a = c .before .before .args in
+    let fits : (k : ℕ) → k < maxJobs → Fits w16 (getD (a .work) k 0) = λ k h. search needs in
+    by-home (a .l .home) (a .work) _ (c .work-by-home .ensures) (search needs) (λ k h. omega (arith, fits k h .fits))
 
 work-by-home-requires : tie.Need-work-by-home-requires Inv-loop μ-loop
 work-by-home-requires c κs = search needs
@@ -59,18 +67,18 @@ array-read-own c = search needs
 asked-of-requires : tie.Need-asked-of-requires Inv-loop μ-loop
 asked-of-requires c κs =
     let l = c .before .before .before .loop in
-    omega (arith, c .before .before .before .before .before .before .work-by-home .ensures .small (l .i - 1) (search needs))
+    omega (arith, sums-of (c .before .before .before .before .before .before) .1 (l .i - 1) (search needs))
 
 asks : (c : tie.After-asked-of Inv-loop μ-loop) → c .asked-of .result ≤ ((c .before .before .before .before .before .capped .result - c .before .before .before .before .loop .i) + 1) * maxPlaceWork
 asks c =
     let l = c .before .before .before .before .loop in
     let start = c .before .before .before .before .before .before .before .before .before in
-    let sums = c .before .before .before .before .before .before .before .work-by-home in
+    let called = c .before .before .before .before .before .before .before in
     omega (
       arith,
       c .asked-of .ensures,
-      asked-most (start .args .t) (getD (start .args .l .interval) (l .i - 1) blankInterval) (getD (sums .result) (l .i - 1) 0) (l .debt),
-      sums .ensures .small (l .i - 1) (search needs),
+      asked-most (start .args .t) (getD (start .args .l .interval) (l .i - 1) blankInterval) (getD (called .work-by-home .result) (l .i - 1) 0) (l .debt),
+      sums-of called .1 (l .i - 1) (search needs),
     )
 
 signed-requires : tie.Need-signed-requires Inv-loop μ-loop
@@ -109,7 +117,7 @@ loop-again : tie.Need-loop-again Inv-loop μ-loop
 loop-again c =
     let called = c .before .before .before .before .before .before .before in
     let start = called .before .before .before .before in
-    let here = turn c (start .args .l .home) (start .args .work) (called .before .before .work-by-home .ensures) in
+    let here = turn c (start .args .l .home) (start .args .work) (sums-of (called .before .before)) in
     (here .within, here .small, turn c)
 
 returns : tie.Need-returns Inv-loop μ-loop
@@ -120,7 +128,7 @@ returns c =
     let a = called .before .before .before .before .args in
     let z : l .i ≡ 0 = omega arith in
     row-end (a .t) (called .capped .result) (a .l .home) (a .work) (a .l .interval) (search needs) (size (called .before .before .before .before)) (l .row) (l .debt)
-    (rw z at (l .inv .2 (a .l .home) (a .work) (called .before .before .work-by-home .ensures)))
+    (rw z at (l .inv .2 (a .l .home) (a .work) (sums-of (called .before .before))))
     ∙ rw (called .capped .ensures, take-min (a .l .count) maxIntervals (a .l .interval) (size (called .before .before .before .before)))
 
 pub row-of-spec : {M : Type 1} → statement M

@@ -1,4 +1,4 @@
--- `intervals::work_by_home` meets its contract. The loop's invariant: a place's sum and the work still to come for it are all its work.
+-- `intervals::debt::work_by_home` meets its contract. The loop's invariant: a place's sum and the work still to come for it are all its work.
 use Prim.Native.Nat.{_-_}
 use mathlib.Core.Path.{_≡_, _∙_}
 use mathlib.Core.Logic.{⊎-elim}
@@ -10,8 +10,8 @@ use Rattle.plan.specs.Limits.{maxJobs}
 use Rattle.intervals.specs.Debt.{SumsSoFar, withWork}
 use Rattle.intervals.specs.RowLaws.{sums-start, sums-more, sums-end, work-counted, work-nowhere}
 use borrow.Author.Needs.{needs}
-use Rattle.intervals.proofs.work_by_home.Statement.{statement}
-use Rattle.intervals.proofs.work_by_home.Tie as tie
+use Rattle.intervals.proofs.debt.work_by_home.Statement.{statement}
+use Rattle.intervals.proofs.debt.work_by_home.Tie as tie
 
 abbrev Inv-loop : tie.InvT-loop
 Inv-loop home work sums₀ k₀ sums k = SumsSoFar home work sums k
