@@ -1,5 +1,6 @@
 pub mod Acceptance
 pub mod Analysis
+pub mod Parts
 pub mod Rising
 pub mod RisingLaws
 pub mod Overfull

@@ -177,23 +177,20 @@ pub fn windows_hold(p: Plan) -> bool
 }
 
 // The counts with one more for job k.
-pub fn counted(counts: [u16; JOBS], k: u16) -> [u16; JOBS]
-    ensures { λ r. ⌜ r ≡ countedWith counts k ⌝ }
+pub fn count_slot(counts: &mut [u16; JOBS], k: u16)
+    ensures { λ _. ⌜ now (counts .exit) ≡ countedWith (now (counts .entry)) k ⌝ }
 {
     if k < 1 {
-        return counts;
+        return;
     }
     let at = wide(k - 1);
     if JOBS <= at {
-        return counts;
+        return;
     }
     let before = counts[at];
-    if 65535 <= before {
-        return counts;
+    if before < 65535 {
+        counts[at] = before + 1;
     }
-    let mut next = counts;
-    next[at] = before + 1;
-    next
 }
 
 // The place of the count of job k, JOBS where k names no job that has one.
