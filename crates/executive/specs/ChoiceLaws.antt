@@ -12,12 +12,12 @@ use Rattle.executive.specs.declared.Run.{Run}
 use Rattle.executive.specs.declared.Slot.{Slot}
 use Rattle.executive.specs.Run.{live, freshEntry, currentHi, currentLo}
 use Rattle.executive.specs.Choice.{ready, readyHi, setOf, earliest, chosenT, chosenH}
-use Rattle.executive.specs.Ready.{members, membersOf}
+use Rattle.executive.specs.Ready.{members, membersOf, planOf}
 use Rattle.executive.specs.ReadyLaws.{Full, members-all, members-hi, walk-members}
 
 -- the slot from the set
-from-set : (hi : Bool) (r : Run) (set : ℕ) (slot : Slot) → Full r → set ≡ setOf (members hi r) → slot ≡ earliest (r .plan) (membersOf maxJobs set) → slot ≡ earliest (r .plan) (members hi r)
-from-set hi r set slot full p q = q ∙ ap (λ (n : ℕ). earliest (r .plan) (membersOf maxJobs n)) p ∙ walk-members hi r full
+from-set : (hi : Bool) (r : Run) (set : ℕ) (slot : Slot) → Full r → set ≡ setOf (members hi r) → slot ≡ earliest (planOf (r .plan .job)) (membersOf maxJobs set) → slot ≡ earliest (r .plan) (members hi r)
+from-set hi r set slot full p q = q ∙ ap (λ (n : ℕ). earliest (planOf (r .plan .job)) (membersOf maxJobs n)) p ∙ walk-members hi r full
 
 module _ (r : Run) (t i : ℕ) (has : Bool) (et : t ≡ r .t) (ei : i ≡ getD (r .plan .table) t 0 - 1)
     (eh : has ≡ ((1 ≤? getD (r .plan .table) t 0) && live (getD (r .job) i freshEntry))) where
@@ -30,17 +30,21 @@ module _ (r : Run) (t i : ℕ) (has : Bool) (et : t ≡ r .t) (ei : i ≡ getD (
   table-slot p = rw (table-test true p, et)
 
   -- it is not: the earliest-deadline ready job
-  pub other-slot : has ≡ false → (set : ℕ) (slot : Slot) → Full r → set ≡ setOf (members false r) → slot ≡ earliest (r .plan) (membersOf maxJobs set) → slot ≡ chosenT r
+  pub other-slot : has ≡ false → (set : ℕ) (slot : Slot) → Full r → set ≡ setOf (members false r) → slot ≡ earliest (planOf (r .plan .job)) (membersOf maxJobs set) → slot ≡ chosenT r
   unfolding chosenT
   other-slot p set slot full q s = rw (table-test false p, ← members-all r) (from-set false r set slot full q s)
 
--- phase H: the members are all ready jobs, or the ready HI jobs
-pub open-slot : (r : Run) (place : ℕ) (all : Bool) (set : ℕ) (slot : Slot) → place ≡ past (r .t) (intervals (r .plan)) → all ≡ (above0 (getD (r .hi) place (pos 0)) && not (below0 (getD (r .lo) place (pos 0)))) → Full r → set ≡ setOf (members (not all) r) → slot ≡ earliest (r .plan) (membersOf maxJobs set) → slot ≡ chosenH r
-unfolding chosenH current
-open-slot r place all set slot ep ea full es e =
-    let a : all ≡ (above0 (currentHi r) && not (below0 (currentLo r))) = rw ep at ea in
-    rw (← a) (go all (from-set (not all) r set slot full es e))
-  where
-    go : (b : Bool) → slot ≡ earliest (r .plan) (members (not b) r) → slot ≡ earliest (r .plan) (if b then ready r else readyHi r)
-    go true p = rw members-all at p
-    go false p = rw members-hi at p
+-- phase H: the current spares say whether all ready jobs or the ready HI jobs are asked
+module _ (r : Run) (place : ℕ) (all : Bool) (set : ℕ) (slot : Slot) (ep : place ≡ past (r .t) (intervals (r .plan)))
+    (ea : all ≡ (above0 (getD (r .hi) place (pos 0)) && not (below0 (getD (r .lo) place (pos 0))))) (full : Full r) where
+  spare-test : (b : Bool) → all ≡ b → (above0 (currentHi r) && not (below0 (currentLo r))) ≡ b
+  unfolding current
+  spare-test b p = rw ep at (sym ea ∙ p)
+
+  pub open-slot : all ≡ true → set ≡ setOf (members false r) → slot ≡ earliest (planOf (r .plan .job)) (membersOf maxJobs set) → slot ≡ chosenH r
+  unfolding chosenH
+  open-slot p q s = rw (spare-test true p, ← members-all r) (from-set false r set slot full q s)
+
+  pub hi-slot : all ≡ false → set ≡ setOf (members true r) → slot ≡ earliest (planOf (r .plan .job)) (membersOf maxJobs set) → slot ≡ chosenH r
+  unfolding chosenH
+  hi-slot p q s = rw (spare-test false p, ← members-hi r) (from-set true r set slot full q s)

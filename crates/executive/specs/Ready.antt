@@ -16,14 +16,22 @@ unfoldable pub isMember : Bool → ℕ → Job → Entry → Bool
 isMember false t j e = isReady t j e
 isMember true t j e = isReady t j e && isHi j
 
--- for each job of the plan, whether it is a member
+-- for each job, whether it is a member
+unfoldable pub membersAmong : Bool → ℕ → List Job → List Entry → List Bool
+membersAmong hiOnly t js es = zipWith (isMember hiOnly t) js es
+
+-- for each job of the run's plan
 unfoldable pub members : Bool → Run → List Bool
-members hiOnly r = zipWith (isMember hiOnly (r .t)) (jobsOf (r .plan)) (r .job)
+members hiOnly r = membersAmong hiOnly (r .t) (jobsOf (r .plan)) (r .job)
 
 -- the members of a set among its first w places
 unfoldable pub membersOf : ℕ → ℕ → List Bool
 membersOf zero set = []
 membersOf (suc w) set = (set % 2 =? 1) ∷ membersOf w (set / 2)
+
+-- a plan of these jobs; who goes first asks no more of a plan
+abbrev pub planOf : List Job → Plan
+planOf job = record { slots = 0; jobs = 0; job = job; table = [] }
 
 -- a job's number as a slot; 0 is idle, as in the table
 abbrev pub slotOf : ℕ → Slot

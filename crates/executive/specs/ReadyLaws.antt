@@ -23,18 +23,18 @@ use Rattle.executive.specs.declared.Run.{Run}
 use Rattle.executive.specs.declared.Slot.{Slot}
 use Rattle.executive.specs.Choice.{ready, readyHi, setOf, howMany, goesBefore, better, earliestFrom, earliest}
 use Rattle.words.specs.ZipLaws.{zipped-length, zipped-at}
-use Rattle.executive.specs.Ready.{isMember, members, membersOf, slotOf, winner}
+use Rattle.executive.specs.Ready.{isMember, membersAmong, members, membersOf, planOf, slotOf, winner}
 
 pow2 : (k : ℕ) → 2 ^ suc k ≡ 2 ^ k * 2
 pow2 k = pow-suc 2 k
 
 -- the members are the ready jobs, or the ready HI jobs
 pub members-all : (r : Run) → members false r ≡ ready r
-unfolding members isMember ready
+unfolding members membersAmong isMember ready
 members-all r = refl
 
 pub members-hi : (r : Run) → members true r ≡ readyHi r
-unfolding members isMember readyHi
+unfolding members membersAmong isMember readyHi
 members-hi r = refl
 
 -- a run's arrays have all their places, and its plan no more jobs than these
@@ -43,15 +43,24 @@ pub record Full (r : Run) : Type 0 where
   pub jobs : length (r .plan .job) ≡ maxJobs
   pub entries : length (r .job) ≡ maxJobs
 
+module _ (hi : Bool) (t : ℕ) (job : List Job) (entry : List Entry) (n : ℕ) (lj : n ≤ length job) (le : n ≤ length entry) where
+  pub among-length : length (membersAmong hi t (take n job) entry) ≡ n
+  unfolding membersAmong
+  among-length = zipped-length (isMember hi t) job entry n lj le
+
+  -- job i + 1 is a member
+  pub among-at : (i : ℕ) (j : Job) (e : Entry) → i < n → getD (membersAmong hi t (take n job) entry) i false ≡ isMember hi t (getD job i j) (getD entry i e)
+  unfolding membersAmong
+  among-at i j e h = zipped-at (isMember hi t) job entry n lj le i j e false h
+
 module _ (hi : Bool) (r : Run) (full : Full r) where
   pub members-length : length (members hi r) ≡ r .plan .jobs
   unfolding members
-  members-length = zipped-length (isMember hi (r .t)) (r .plan .job) (r .job) (r .plan .jobs) (omega arith) (omega arith)
+  members-length = among-length hi (r .t) (r .plan .job) (r .job) (r .plan .jobs) (omega arith) (omega arith)
 
-  -- job i + 1 is a member
   pub member-at : (i : ℕ) (j : Job) (e : Entry) → i < r .plan .jobs → getD (members hi r) i false ≡ isMember hi (r .t) (getD (r .plan .job) i j) (getD (r .job) i e)
   unfolding members
-  member-at i j e h = zipped-at (isMember hi (r .t)) (r .plan .job) (r .job) (r .plan .jobs) (omega arith) (omega arith) i j e false h
+  member-at = among-at hi (r .t) (r .plan .job) (r .job) (r .plan .jobs) (omega arith) (omega arith)
 
 -- one member more, above the others
 set-snoc : (bs : List Bool) (b : Bool) → setOf (bs ++ (b ∷ [])) ≡ setOf bs + (if b then 2 ^ length bs else 0)
@@ -185,9 +194,16 @@ module _ (p : Plan) (w best b rest r : ℕ) (some : 0 < rest) (small : rest < 2 
       let s : slotOf r ≡ better p (slotOf best) (1 + trailingZeros w rest) = ap slotOf won-by ∙ winner-better p best (trailingZeros w rest + 1) (omega arith) ∙ ap (better p (slotOf best)) e in
       rw s (walk-next p (slotOf best) 1 w rest some small)
 
+-- the walk asks for no more of a plan than its jobs
+walk-jobs : (p : Plan) (best : Slot) (k : ℕ) (bs : List Bool) → earliestFrom (planOf (p .job)) best k bs ≡ earliestFrom p best k bs
+unfolding earliestFrom better
+walk-jobs p best k [] = refl
+walk-jobs p Slot.Idle k (b ∷ bs) = walk-jobs p (if b then Slot.Job k else Slot.Idle) (suc k) bs
+walk-jobs p (Slot.Job c) k (b ∷ bs) = walk-jobs p (if b then better p (Slot.Job c) k else Slot.Job c) (suc k) bs
+
 -- the walk over the set of a run's members
-pub walk-members : (hi : Bool) (r : Run) → Full r → earliest (r .plan) (membersOf maxJobs (setOf (members hi r))) ≡ earliest (r .plan) (members hi r)
+pub walk-members : (hi : Bool) (r : Run) → Full r → earliest (planOf (r .plan .job)) (membersOf maxJobs (setOf (members hi r))) ≡ earliest (r .plan) (members hi r)
 unfolding earliest
 walk-members hi r full =
     let l = members-length hi r full in
-    walk-set (r .plan) Slot.Idle 1 maxJobs (members hi r) (omega arith)
+    walk-jobs (r .plan) Slot.Idle 1 (membersOf maxJobs (setOf (members hi r))) ∙ walk-set (r .plan) Slot.Idle 1 maxJobs (members hi r) (omega arith)

@@ -21,10 +21,6 @@ use Rattle.executive.specs.Run.{freshEntry}
 use Rattle.executive.specs.Step.{ranOn, reported, expiredEntry, expiredEntries, expired, pastLo, overrun, settled, everySettled, canReturn, phaseAfter, judged, refreshed, nextRun}
 use Rattle.executive.specs.Sound.{Listed, Countable}
 
--- the same run with other entries
-abbrev pub withEntries : Run → List Entry → Run
-withEntries r es = record { plan = r .plan; t = r .t; phase = r .phase; hi = r .hi; lo = r .lo; job = es }
-
 -- one entry more has met its border
 expired-next : (t i : ℕ) (js : List Job) (es : List Entry) (j : Job) (e : Entry) → i < length js → i < length es → set (expiredEntries t (take i js) es) i (expiredEntry t (getD js i j) (getD (expiredEntries t (take i js) es) i e)) ≡ expiredEntries t (take (suc i) js) es
 unfolding expiredEntries
@@ -33,14 +29,9 @@ expired-next t i (x ∷ js) [] j e h k = absurd (not-suc-le-zero k)
 expired-next t zero (x ∷ js) (y ∷ es) j e h k = refl
 expired-next t (suc i) (x ∷ js) (y ∷ es) j e h k = ap (λ (l : List Entry). expiredEntry t x y ∷ l) (expired-next t i js es j e (le-of-suc-le-suc h) (le-of-suc-le-suc k))
 
--- one turn over the entries, at the whole run
-pub expired-turn : (s next : Run) (i : ℕ) (j : Job) (e x : Entry) → i < length (s .plan .job) → i < length (s .job) → next ≡ withEntries s (expiredEntries (s .t) (take i (s .plan .job)) (s .job)) → x ≡ expiredEntry (s .t) (getD (s .plan .job) i j) (getD (next .job) i e) → withEntries next (set (next .job) i x) ≡ withEntries s (expiredEntries (s .t) (take (i + 1) (s .plan .job)) (s .job))
-expired-turn s next i j e x h k p q = rw (q, p, add-one i) (ap (withEntries s) (expired-next (s .t) i (s .plan .job) (s .job) j e h k))
-
--- the last turn
-pub expired-end : (s next : Run) (i : ℕ) → i ≡ s .plan .jobs → next ≡ withEntries s (expiredEntries (s .t) (take i (s .plan .job)) (s .job)) → next ≡ expired s
-unfolding expired
-expired-end s next i h p = rw h at p
+-- one turn over the entries
+pub expired-turn : (t i : ℕ) (js : List Job) (es next : List Entry) (j : Job) (e x : Entry) → i < length js → i < length es → next ≡ expiredEntries t (take i js) es → x ≡ expiredEntry t (getD js i j) (getD next i e) → set next i x ≡ expiredEntries t (take (i + 1) js) es
+expired-turn t i js es next j e x h k p q = rw (q, p, add-one i) (expired-next t i js es j e h k)
 
 module _ (js : List Job) (es : List Entry) (cs : List ℕ) (n i : ℕ) (j : Job) (e : Entry) (lj : n ≤ length js) (le : n ≤ length es) (lc : n ≤ length cs) (h : i < n) where
   -- job i + 1 is settled: the answer from here is the answer from the next on

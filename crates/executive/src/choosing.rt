@@ -1,13 +1,15 @@
 // Who gets slot t, in either phase. What a choice is refused for is in lib.rt.
 ghost use mathlib.Core.Path.{_≡_};
-ghost use mathlib.Core.Bool.{not, _&&_};
+ghost use mathlib.Core.Bool.{false, not, _&&_};
 ghost use Prim.Native.Nat.{_≤_};
 ghost use lib.IntN.{pos};
 ghost use lib.ListN.{getD};
 ghost use Rattle.words.specs.Words.{_≤?_, below0, above0};
+ghost use Rattle.plan.specs.Limits.{maxJobs};
 ghost use Rattle.intervals.specs.Intervals.{intervals, past};
 ghost use Rattle.executive.specs.Run.{live};
-ghost use Rattle.executive.specs.Choice.{chosenT, chosenH, chosen};
+ghost use Rattle.executive.specs.Choice.{setOf, chosenT, chosenH, chosen};
+ghost use Rattle.executive.specs.Ready.{members};
 ghost use Rattle.executive.specs.Sound.{Sound};
 use crate::Entry;
 use crate::Phase;
@@ -16,6 +18,7 @@ use crate::Slot;
 use crate::entries::is_live;
 use crate::ready::earliest;
 use crate::ready::index;
+use crate::ready::ready_set;
 use intervals::INTERVALS;
 
 // The table's job k has its slot when it is live.
@@ -61,43 +64,62 @@ fn open_to_all(hi: [i32; INTERVALS], lo: [i32; INTERVALS], place: usize) -> bool
 }
 
 impl Run {
-    fn chosen_t(self) -> Slot
-        requires { ⌜ Sound self ⌝ }
+    // `ready` is the set of the ready jobs.
+    fn chosen_t(self, ready: u32) -> Slot
+        requires { ⌜ Sound self × (ready ≡ setOf (members false self)) ⌝ }
         ensures { λ r. ⌜ r ≡ chosenT self ⌝ }
     {
         let p = self.plan;
+        let table = p.table;
         let t = plan::wide(self.t);
-        let k = p.table[t];
+        let k = table[t];
         let i = index(k);
-        let e = self.job[i];
+        let entry = self.job;
+        let e = entry[i];
         if has_slot(k, e) {
             return Slot::Job(k);
         }
-        let set = self.ready_set(false);
-        earliest(p, set)
+        let job = p.job;
+        earliest(job, ready)
     }
 
-    // `place` is that of the current interval.
-    fn chosen_h(self, place: usize) -> Slot
-        requires { ⌜ Sound self × (place ≡ past (self .t) (intervals (self .plan))) ⌝ }
+    // `place` is that of the current interval, `ready` the set of the ready jobs.
+    fn chosen_h(self, place: usize, ready: u32) -> Slot
+        requires { ⌜ Sound self × (place ≡ past (self .t) (intervals (self .plan))) × (ready ≡ setOf (members false self)) ⌝ }
         ensures { λ r. ⌜ r ≡ chosenH self ⌝ }
     {
         let p = self.plan;
+        let job = p.job;
         let hi = self.hi;
         let lo = self.lo;
-        let all = open_to_all(hi, lo, place);
-        let set = self.ready_set(!all);
-        earliest(p, set)
+        if open_to_all(hi, lo, place) {
+            return earliest(job, ready);
+        }
+        let entry = self.job;
+        let set = ready_set(true, self.t, job, entry, p.jobs as usize);
+        earliest(job, set)
     }
 
-    pub(crate) fn chosen(self, place: usize) -> Slot
-        requires { ⌜ Sound self × (place ≡ past (self .t) (intervals (self .plan))) ⌝ }
+    // The set of the ready jobs.
+    pub(crate) fn ready(self) -> u32
+        requires { ⌜ self .plan .jobs ≤ maxJobs ⌝ }
+        ensures { λ r. ⌜ r ≡ setOf (members false self) ⌝ }
+    {
+        let p = self.plan;
+        let job = p.job;
+        let entry = self.job;
+        ready_set(false, self.t, job, entry, p.jobs as usize)
+    }
+
+    // `place` is that of the current interval, `ready` the set of the ready jobs.
+    pub(crate) fn chosen(self, place: usize, ready: u32) -> Slot
+        requires { ⌜ Sound self × (place ≡ past (self .t) (intervals (self .plan))) × (ready ≡ setOf (members false self)) ⌝ }
         ensures { λ r. ⌜ r ≡ chosen self ⌝ }
     {
         let phase = self.phase;
         match phase {
-            Phase::T => self.chosen_t(),
-            Phase::H => self.chosen_h(place),
+            Phase::T => self.chosen_t(ready),
+            Phase::H => self.chosen_h(place, ready),
         }
     }
 }

@@ -1,15 +1,20 @@
-// When the record of a run is coherent, on any record: the rows worked out afresh, the entries, and the whole test.
+// When the record of a run is coherent, on any record: the entries, the rows worked out afresh, and the whole test.
 ghost use mathlib.Core.Path.{_≡_};
 ghost use Prim.Native.Nat.{_≤_};
+ghost use lib.ListN.{take};
 ghost use Rattle.plan.specs.Limits.{maxJobs};
 ghost use Rattle.intervals.specs.Layout.{layoutOf};
-ghost use Rattle.executive.specs.Coherent.{entriesHold, sameRow, coherent};
+ghost use Rattle.executive.specs.Coherent.{sameRow, coherent};
+ghost use Rattle.executive.specs.Parts.{allHold};
 ghost use Rattle.executive.specs.Step.{refreshed};
-ghost use Rattle.executive.specs.Work.{freshRow};
+use crate::Entry;
 use crate::Run;
 use crate::entries::standing_holds;
+use crate::work::rows_in;
 use intervals::INTERVALS;
 use intervals::Layout;
+use plan::JOBS;
+use plan::Job;
 
 // Two rows have the same spares.
 fn same_row(a: [i32; INTERVALS], b: [i32; INTERVALS]) -> bool
@@ -27,47 +32,41 @@ fn same_row(a: [i32; INTERVALS], b: [i32; INTERVALS]) -> bool
     true
 }
 
-impl Run {
-    // The HI row or the LO row, worked out afresh; `layout` is that of the run's plan.
-    fn fresh_row(self, layout: Layout, hi: bool) -> [i32; INTERVALS]
-        requires { ⌜ (self .plan .jobs ≤ maxJobs) × (layout ≡ layoutOf (self .plan)) ⌝ }
-        ensures { λ r. ⌜ r ≡ freshRow hi self ⌝ }
-    {
-        let work = self.work(hi);
-        intervals::row_of(layout, self.t, work)
+// Of the first n jobs: a live one has fewer slots than hi; an ended one at most hi, and is not marked ended after t.
+fn entries_hold(t: u16, job: [Job; JOBS], entry: [Entry; JOBS], n: usize) -> bool
+    requires { ⌜ n ≤ maxJobs ⌝ }
+    ensures { λ r. ⌜ r ≡ allHold t (take n job) entry ⌝ }
+{
+    let mut i: usize = 0;
+    while i < n {
+        let j = job[i];
+        let e = entry[i];
+        let standing = e.standing;
+        if !standing_holds(t, j.hi, e.given, standing) {
+            return false;
+        }
+        i += 1;
     }
+    true
+}
 
+impl Run {
     // Both rows are the fresh ones.
     pub(crate) fn refreshed(self, layout: Layout) -> Run
         requires { ⌜ (self .plan .jobs ≤ maxJobs) × (layout ≡ layoutOf (self .plan)) ⌝ }
         ensures { λ r. ⌜ r ≡ refreshed self ⌝ }
     {
-        let hi = self.fresh_row(layout, true);
-        let lo = self.fresh_row(layout, false);
+        let p = self.plan;
+        let job = p.job;
+        let entry = self.job;
+        let n = p.jobs as usize;
+        let rows = rows_in(layout, self.t, job, entry, n);
+        let hi = rows.hi;
+        let lo = rows.lo;
         let mut next = self;
         next.hi = hi;
         next.lo = lo;
         next
-    }
-
-    // A live job has fewer slots than hi; an ended one at most hi, and is not marked ended after t.
-    fn entries_hold(self) -> bool
-        requires { ⌜ self .plan .jobs ≤ maxJobs ⌝ }
-        ensures { λ r. ⌜ r ≡ entriesHold self ⌝ }
-    {
-        let p = self.plan;
-        let n = p.jobs as usize;
-        let mut i: usize = 0;
-        while i < n {
-            let j = p.job[i];
-            let e = self.job[i];
-            let standing = e.standing;
-            if !standing_holds(self.t, j.hi, e.given, standing) {
-                return false;
-            }
-            i += 1;
-        }
-        true
     }
 
     // Every clause of coherence, in the order of its definition; `layout` is that of the run's plan.
@@ -83,16 +82,20 @@ impl Run {
         if p.slots < self.t {
             return false;
         }
-        if !self.entries_hold() {
+        let n = p.jobs as usize;
+        let job = p.job;
+        let entry = self.job;
+        if !entries_hold(self.t, job, entry, n) {
             return false;
         }
+        let rows = rows_in(layout, self.t, job, entry, n);
         let hi = self.hi;
-        let fresh_hi = self.fresh_row(layout, true);
+        let fresh_hi = rows.hi;
         if !same_row(hi, fresh_hi) {
             return false;
         }
         let lo = self.lo;
-        let fresh_lo = self.fresh_row(layout, false);
+        let fresh_lo = rows.lo;
         same_row(lo, fresh_lo)
     }
 }

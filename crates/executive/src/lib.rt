@@ -181,12 +181,12 @@ impl Run {
             };
         }
         let place = intervals::past_of(layout, self.t);
-        let slot = self.chosen(place);
-        let set = self.ready_set(false);
+        let ready = self.ready();
+        let slot = self.chosen(place, ready);
         Choice {
             answer: Answer::Accepted,
             slot: slot,
-            ready: u32::count_ones(set),
+            ready: u32::count_ones(ready),
         }
     }
 
@@ -221,7 +221,8 @@ impl Run {
             };
         }
         let place = intervals::past_of(layout, self.t);
-        let slot = self.chosen(place);
+        let ready = self.ready();
+        let slot = self.chosen(place, ready);
         let kind = report.kind;
         if !kind_fits(slot, kind) {
             return Stepped {

@@ -2,16 +2,16 @@
 ghost use mathlib.Core.Path.{_≡_};
 ghost use mathlib.Core.Bool.{_||_};
 ghost use Prim.Native.Nat.{_-_, _≤_, _<_};
+ghost use lib.ListN.{take};
 ghost use Rattle.words.specs.Words.{if_then_else_, _=?_};
 ghost use Rattle.plan.specs.Limits.{maxJobs};
 ghost use Rattle.executive.specs.Choice.{goesBefore, setOf, earliest};
-ghost use Rattle.executive.specs.Ready.{isMember, members, membersOf, slotOf};
+ghost use Rattle.executive.specs.Ready.{isMember, membersAmong, membersOf, planOf, slotOf};
 use crate::Entry;
-use crate::Run;
 use crate::Slot;
 use crate::entries::is_live;
+use plan::JOBS;
 use plan::Job;
-use plan::Plan;
 use plan::is_hi;
 
 // A ready job, or with `hi` a ready HI job.
@@ -30,26 +30,28 @@ fn is_member(hi: bool, t: u16, j: Job, e: Entry) -> bool
     is_hi(j)
 }
 
-impl Run {
-    // The set of the ready jobs, or with `hi` of the ready HI jobs.
-    pub(crate) fn ready_set(self, hi: bool) -> u32
-        requires { ⌜ self .plan .jobs ≤ maxJobs ⌝ }
-        ensures { λ r. ⌜ r ≡ setOf (members hi self) ⌝ }
-    {
-        let p = self.plan;
-        let n = p.jobs as usize;
-        let mut set: u32 = 0;
-        let mut i: usize = 0;
-        while i < n {
-            let j = p.job[i];
-            let e = self.job[i];
-            if is_member(hi, self.t, j, e) {
-                set = set | (1u32 << i);
-            }
-            i += 1;
+// The set of the ready ones of the first n jobs, or with `hi` of the ready HI jobs.
+pub(crate) fn ready_set(
+    hi: bool,
+    t: u16,
+    job: [Job; JOBS],
+    entry: [Entry; JOBS],
+    n: usize,
+) -> u32
+    requires { ⌜ n ≤ maxJobs ⌝ }
+    ensures { λ r. ⌜ r ≡ setOf (membersAmong hi t (take n job) entry) ⌝ }
+{
+    let mut set: u32 = 0;
+    let mut i: usize = 0;
+    while i < n {
+        let j = job[i];
+        let e = entry[i];
+        if is_member(hi, t, j, e) {
+            set = set | (1u32 << i);
         }
-        set
+        i += 1;
     }
+    set
 }
 
 // Least deadline, then HI before LO; of two alike the lower number stays.
@@ -101,17 +103,17 @@ fn slot_of(k: u16) -> Slot
 }
 
 // The member of earliest deadline, none means idle. Each turn takes the lowest member out.
-pub(crate) fn earliest(p: Plan, set: u32) -> Slot
-    ensures { λ r. ⌜ r ≡ earliest p (membersOf maxJobs set) ⌝ }
+pub(crate) fn earliest(job: [Job; JOBS], set: u32) -> Slot
+    ensures { λ r. ⌜ r ≡ earliest (planOf job) (membersOf maxJobs set) ⌝ }
 {
     let mut best: u16 = 0;
     let mut rest = set;
     while 0 < rest {
         let lowest = u32::trailing_zeros(rest);
         let at = lowest as usize;
-        let j = p.job[at];
+        let j = job[at];
         let b = index(best);
-        let first = p.job[b];
+        let first = job[b];
         let k = lowest as u16 + 1;
         best = winner(best, first, k, j);
         rest = rest - (1u32 << lowest);

@@ -1,9 +1,11 @@
 // One accepted report, applied: the job's entry, expiry, the phase. What a step is refused for is in lib.rt.
 ghost use mathlib.Core.Path.{_≡_};
 ghost use Prim.Native.Nat.{_≤_, _<_};
+ghost use lib.ListN.{take};
 ghost use Rattle.plan.specs.Limits.{maxSlots, maxJobs};
-ghost use Rattle.executive.specs.Step.{reported, expired, overrun, canReturn, phaseAfter, judged};
+ghost use Rattle.executive.specs.Step.{reported, expiredEntries, expired, overrun, everySettled, canReturn, phaseAfter, judged};
 ghost use Rattle.executive.specs.Sound.{Listed, Countable};
+use crate::Entry;
 use crate::Kind;
 use crate::Phase;
 use crate::Run;
@@ -13,6 +15,52 @@ use crate::entries::past_lo;
 use crate::entries::ran_on;
 use crate::entries::settled;
 use crate::ready::index;
+use plan::JOBS;
+use plan::Job;
+
+// The entries after the first n jobs have met border t; those beyond them stay.
+fn expired_entries(
+    t: u16,
+    job: [Job; JOBS],
+    before: [Entry; JOBS],
+    n: usize,
+) -> [Entry; JOBS]
+    requires { ⌜ n ≤ maxJobs ⌝ }
+    ensures { λ r. ⌜ r ≡ expiredEntries t (take n job) before ⌝ }
+{
+    let mut entry = before;
+    let mut i: usize = 0;
+    while i < n {
+        let j = job[i];
+        let e = entry[i];
+        let after = expired_entry(t, j, e);
+        entry[i] = after;
+        i += 1;
+    }
+    entry
+}
+
+// The return test of the first n jobs, job by job against the counts.
+fn every_settled(
+    job: [Job; JOBS],
+    entry: [Entry; JOBS],
+    counts: [u16; JOBS],
+    n: usize,
+) -> bool
+    requires { ⌜ n ≤ maxJobs ⌝ }
+    ensures { λ r. ⌜ r ≡ everySettled (take n job) entry counts ⌝ }
+{
+    let mut i: usize = 0;
+    while i < n {
+        let j = job[i];
+        let e = entry[i];
+        if !settled(j, e, counts[i]) {
+            return false;
+        }
+        i += 1;
+    }
+    true
+}
 
 impl Run {
     // The report of a slot is applied to its job, and t grows by 1.
@@ -28,11 +76,14 @@ impl Run {
         };
         let i = index(k);
         let p = self.plan;
-        let j = p.job[i];
-        let e = self.job[i];
+        let job = p.job;
+        let mut entry = self.job;
+        let j = job[i];
+        let e = entry[i];
         let ran = ran_on(kind, border, j, e);
+        entry[i] = ran;
         let mut next = self;
-        next.job[i] = ran;
+        next.job = entry;
         next.t = border;
         next
     }
@@ -43,17 +94,12 @@ impl Run {
         ensures { λ r. ⌜ r ≡ expired self ⌝ }
     {
         let p = self.plan;
-        let t = self.t;
         let n = p.jobs as usize;
+        let job = p.job;
+        let entry = self.job;
+        let left = expired_entries(self.t, job, entry, n);
         let mut next = self;
-        let mut i: usize = 0;
-        while i < n {
-            let j = p.job[i];
-            let e = next.job[i];
-            let after = expired_entry(t, j, e);
-            next.job[i] = after;
-            i += 1;
-        }
+        next.job = left;
         next
     }
 
@@ -67,12 +113,14 @@ impl Run {
         };
         let i = index(k);
         let p = self.plan;
-        let j = p.job[i];
-        let e = self.job[i];
+        let job = p.job;
+        let entry = self.job;
+        let j = job[i];
+        let e = entry[i];
         past_lo(j, e)
     }
 
-    // The return test, job by job against the counts of border t.
+    // The return test, against the counts of border t.
     fn can_return(self) -> bool
         requires { ⌜ self .plan .jobs ≤ maxJobs ⌝ }
         ensures { λ r. ⌜ r ≡ canReturn self ⌝ }
@@ -80,16 +128,9 @@ impl Run {
         let p = self.plan;
         let counts = plan::counts_at(p, self.t);
         let n = p.jobs as usize;
-        let mut i: usize = 0;
-        while i < n {
-            let j = p.job[i];
-            let e = self.job[i];
-            if !settled(j, e, counts[i]) {
-                return false;
-            }
-            i += 1;
-        }
-        true
+        let job = p.job;
+        let entry = self.job;
+        every_settled(job, entry, counts, n)
     }
 
     fn phase_after(self, slot: Slot) -> Phase

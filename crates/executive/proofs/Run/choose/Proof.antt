@@ -34,16 +34,18 @@ returns c = choice-refused _ _ _ (c .before .before .can-go-on .ensures) (c .bef
 past-of-requires : tie.Need-past-of-requires
 past-of-requires c κs = search needs
 
-chosen-requires : tie.Need-chosen-requires
-chosen-requires c κs = (sound-run (c .before), place-of-current _ _ _ _ (c .before .before .before .before .layout-of .ensures) (c .past-of .ensures))
+ready-requires : tie.Need-ready-requires
+ready-requires c κs = sound-run (c .before) .few
 
-ready-set-requires : tie.Need-ready-set-requires
-ready-set-requires c κs = sound-run (c .before .before) .few
+chosen-requires : tie.Need-chosen-requires
+chosen-requires c κs =
+    let e = c .before .before in
+    (sound-run e, place-of-current _ _ _ _ (e .before .before .before .layout-of .ensures) (c .before .past-of .ensures), c .ready .ensures)
 
 returns-2 : tie.Need-returns-2
 returns-2 c =
     let e = c .before .before .before in
-    choice-made _ _ _ (e .before .before .can-go-on .ensures) (e .before .is-accepted .ensures) (not-false _ (e .if1 .left)) _ _ (c .before .chosen .ensures) (c .ready-set .ensures)
+    choice-made _ _ _ (e .before .before .can-go-on .ensures) (e .before .is-accepted .ensures) (not-false _ (e .if1 .left)) _ _ (c .chosen .ensures) (c .before .ready .ensures)
 
 pub choose-spec : {M : Type 1} → statement M
 choose-spec =
@@ -54,6 +56,6 @@ choose-spec =
     is-accepted-requires
     returns
     past-of-requires
+    ready-requires
     chosen-requires
-    ready-set-requires
     returns-2)

@@ -1,7 +1,8 @@
 -- `chosen_h` meets its contract: the current spares say whose set is walked.
 use Rattle.words.specs.ListLaws.{long}
+use Rattle.executive.specs.Ready.{members}
 use Rattle.executive.specs.ReadyLaws.{Full}
-use Rattle.executive.specs.ChoiceLaws.{open-slot}
+use Rattle.executive.specs.ChoiceLaws.{open-slot, hi-slot}
 use borrow.Author.Needs.{needs}
 use Rattle.executive.proofs.Run.chosen_h.Statement.{statement}
 use Rattle.executive.proofs.Run.chosen_h.Tie as tie
@@ -12,18 +13,40 @@ full c = record { few = c .pre .0 .few; jobs = search (needs, long); entries = s
 open-to-all-requires : tie.Need-open-to-all-requires
 open-to-all-requires c κs = search needs
 
-ready-set-requires : tie.Need-ready-set-requires
-ready-set-requires c κs = search needs
-
 earliest-requires : tie.Need-earliest-requires
 earliest-requires c κs = search needs
 
 returns : tie.Need-returns
 returns c =
     let a = c .before .before in
-    let s = a .before .before .before .before in
-    open-slot (s .args .self) (s .args .place) _ _ _ (s .pre .1) (a .open-to-all .ensures) (full s) (c .before .ready-set .ensures) (c .earliest .ensures)
+    let s = a .before .before .before .before .before in
+    open-slot (s .args .self) (s .args .place) _ _ _ (s .pre .1) (a .open-to-all .ensures) (full s) (c .before .if1 .taken) (s .pre .2) (c .earliest .ensures)
+
+cast-ready-set : tie.Need-cast-ready-set
+cast-ready-set c = search needs
+
+ready-set-requires : tie.Need-ready-set-requires
+ready-set-requires c κs = search needs
+
+earliest-requires-2 : tie.Need-earliest-requires-2
+earliest-requires-2 c κs = search needs
+
+returns-2 : tie.Need-returns-2
+unfolding members
+returns-2 c =
+    let e = c .before .before .before .before in
+    let a = e .before in
+    let s = a .before .before .before .before .before in
+    hi-slot (s .args .self) (s .args .place) _ _ _ (s .pre .1) (a .open-to-all .ensures) (full s) (e .if1 .left) (c .before .ready-set .ensures) (c .earliest2 .ensures)
 
 pub chosen-h-spec : {M : Type 1} → statement M
 chosen-h-spec =
-    tie.close (tie.spec open-to-all-requires ready-set-requires earliest-requires returns)
+    tie.close
+    (tie.spec
+    open-to-all-requires
+    earliest-requires
+    returns
+    cast-ready-set
+    ready-set-requires
+    earliest-requires-2
+    returns-2)

@@ -29,23 +29,23 @@ index-requires c κs = search needs
 mul-j : tie.Need-mul-j
 mul-j c = search needs
 
-element-copy-out-j : tie.Need-element-copy-out-j
-element-copy-out-j c = omega (arith, listed (c .before .before .before), c .before .index .ensures .0)
+array-copy-out-j : tie.Need-array-copy-out-j
+array-copy-out-j c = let i = c .before .before .before in omega (arith, listed (i .before .before), i .index .ensures .0)
 
 mul-e : tie.Need-mul-e
 mul-e c = search needs
 
-element-copy-out-e : tie.Need-element-copy-out-e
-element-copy-out-e c = omega (arith, listed (c .before .before .before .before), c .before .before .index .ensures .0)
+array-copy-out-e : tie.Need-array-copy-out-e
+array-copy-out-e c = let i = c .before .before .before .before in omega (arith, listed (i .before .before), i .index .ensures .0)
 
 past-lo-requires : tie.Need-past-lo-requires
 past-lo-requires c κs = search needs
 
 returns-2 : tie.Need-returns-2
 returns-2 c =
-    let i = c .before .before .before .before in
+    let i = c .before .before .before .before .before .before in
     let s = i .before .before in
-    overran (s .before .before .args .t1) _ _ _ (s .slot .given .1) (i .index .ensures .0) _ (c .past-lo .ensures)
+    overran (s .before .before .args .self) _ _ _ (s .slot .given .1) (i .index .ensures .0) _ (c .past-lo .ensures)
 
 pub overruns-spec : {M : Type 1} → statement M
 overruns-spec =
@@ -56,8 +56,8 @@ overruns-spec =
     returns
     index-requires
     mul-j
-    element-copy-out-j
+    array-copy-out-j
     mul-e
-    element-copy-out-e
+    array-copy-out-e
     past-lo-requires
     returns-2)

@@ -1,18 +1,27 @@
 -- `refreshed` meets its contract: both rows are the fresh ones.
+use Rattle.words.specs.ListLaws.{long}
+use Rattle.executive.specs.ReadyLaws.{Full}
 use Rattle.executive.specs.Step.{refreshed}
+use Rattle.executive.specs.WorkLaws.{fresh-hi, fresh-lo}
 use borrow.Author.Needs.{needs}
 use Rattle.executive.proofs.Run.refreshed.Statement.{statement}
 use Rattle.executive.proofs.Run.refreshed.Tie as tie
 
-fresh-row-requires : tie.Need-fresh-row-requires
-fresh-row-requires c κs = search needs
+full : (c : tie.Start) → Full (c .args .self)
+full c = record { few = c .pre .0; jobs = search (needs, long); entries = search (needs, long) }
 
-fresh-row-requires-2 : tie.Need-fresh-row-requires-2
-fresh-row-requires-2 c κs = search needs
+cast-n : tie.Need-cast-n
+cast-n c = search needs
+
+rows-in-requires : tie.Need-rows-in-requires
+rows-in-requires c κs = search needs
 
 returns : tie.Need-returns
 unfolding refreshed
-returns c = rw (c .before .fresh-row .ensures, c .fresh-row2 .ensures)
+returns c =
+    let rows = c .before .before in
+    let s = rows .before .before .before .before .before in
+    rw (fresh-hi (s .args .self) _ _ (full s) (s .pre .1) (rows .rows-in .ensures), fresh-lo (s .args .self) _ _ (full s) (s .pre .1) (rows .rows-in .ensures))
 
 pub refreshed-spec : {M : Type 1} → statement M
-refreshed-spec = tie.close (tie.spec fresh-row-requires fresh-row-requires-2 returns)
+refreshed-spec = tie.close (tie.spec cast-n rows-in-requires returns)

@@ -10,8 +10,8 @@ use Rattle.executive.proofs.Run.reported.Statement.{statement}
 use Rattle.executive.proofs.Run.reported.Tie as tie
 
 -- what the `requires` says of the job that ran
-countable : (c : tie.After-slot) → Countable (c .before .before .args .t1) (Slot.Job (c .slot .given .0 .0))
-countable c = subst (Countable (c .before .before .args .t1)) (c .slot .given .1) (c .before .before .pre .1)
+countable : (c : tie.After-slot) → Countable (c .before .before .before .args .self) (Slot.Job (c .slot .given .0 .0))
+countable c = let s = c .before .before .before in subst (Countable (s .args .self)) (c .slot .given .1) (s .pre .1)
 
 add-border : tie.Need-add-border
 add-border c = search needs
@@ -32,29 +32,29 @@ index-requires c κs = search needs
 mul-j : tie.Need-mul-j
 mul-j c = search needs
 
-element-copy-out-j : tie.Need-element-copy-out-j
-element-copy-out-j c = omega (arith, countable (c .before .before .before) .0, c .before .index .ensures .0)
+array-copy-out-j : tie.Need-array-copy-out-j
+array-copy-out-j c = let i = c .before .before .before in omega (arith, countable (i .before .before) .0, i .index .ensures .0)
 
 mul-e : tie.Need-mul-e
 mul-e c = search needs
 
-element-copy-out-e : tie.Need-element-copy-out-e
-element-copy-out-e c = omega (arith, countable (c .before .before .before .before) .0, c .before .before .index .ensures .0)
+array-copy-out-e : tie.Need-array-copy-out-e
+array-copy-out-e c = let i = c .before .before .before .before in omega (arith, countable (i .before .before) .0, i .index .ensures .0)
 
 ran-on-requires : tie.Need-ran-on-requires
-ran-on-requires c κs = let i = c .before .before .before in rw (i .index .ensures .0) (countable (i .before .before) .1)
+ran-on-requires c κs = let i = c .before .before .before .before .before in rw (i .index .ensures .0) (countable (i .before .before) .1)
 
-mul-ran : tie.Need-mul-ran
-mul-ran c = search needs
+mul-entry : tie.Need-mul-entry
+mul-entry c = search needs
 
-element-set-from-ran : tie.Need-element-set-from-ran
-element-set-from-ran c = omega (arith, countable (c .before .before .before .before .before .before) .0, c .before .before .before .before .index .ensures .0)
+array-set-from-entry : tie.Need-array-set-from-entry
+array-set-from-entry c = let i = c .before .before .before .before .before .before in omega (arith, countable (i .before .before) .0, i .index .ensures .0)
 
 returns-2 : tie.Need-returns-2
 returns-2 c =
-    let i = c .before .before .before .before in
+    let i = c .before .before .before .before .before .before in
     let s = i .before .before in
-    ran (s .before .before .args .t1) _ _ _ (s .slot .given .1) (i .index .ensures .0) _ _ (c .ran-on .ensures)
+    ran (s .before .before .before .args .self) _ _ _ (s .slot .given .1) (i .index .ensures .0) _ _ (c .ran-on .ensures)
 
 pub reported-spec : {M : Type 1} → statement M
 reported-spec =
@@ -66,10 +66,10 @@ reported-spec =
     returns
     index-requires
     mul-j
-    element-copy-out-j
+    array-copy-out-j
     mul-e
-    element-copy-out-e
+    array-copy-out-e
     ran-on-requires
-    mul-ran
-    element-set-from-ran
+    mul-entry
+    array-set-from-entry
     returns-2)

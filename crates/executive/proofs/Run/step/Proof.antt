@@ -43,29 +43,32 @@ returns-2 c =
 past-of-requires : tie.Need-past-of-requires
 past-of-requires c κs = search needs
 
+ready-requires : tie.Need-ready-requires
+ready-requires c κs = sound-run (c .before .before .before .before) .few
+
 chosen-requires : tie.Need-chosen-requires
 chosen-requires c κs =
-    let e = c .before .before .before .before in
-    (sound-run e, place-of-current _ _ _ _ (e .before .before .before .layout-of .ensures) (c .past-of .ensures))
+    let e = c .before .before .before .before .before in
+    (sound-run e, place-of-current _ _ _ _ (e .before .before .before .layout-of .ensures) (c .before .past-of .ensures), c .ready .ensures)
 
 kind-fits-requires : tie.Need-kind-fits-requires
 kind-fits-requires c κs = search needs
 
 returns-3 : tie.Need-returns-3
 returns-3 c =
-    let n = c .before .before .before .before in
+    let n = c .before .before .before .before .before in
     let e = n .before .before .before in
     kind-refused _ _ _ (e .before .before .can-go-on .ensures) (e .before .is-accepted .ensures) _ (eq-eqb _ _ (n .if2 .left)) _ (c .before .before .chosen .ensures) (not-false _ (e .if1 .left)) (sym (c .before .kind-fits .ensures) ∙ not-true _ (c .if3 .taken))
 
 next-run-requires : tie.Need-next-run-requires
 next-run-requires c κs =
-    let e = c .before .before .before .before .before .before .before in
+    let e = c .before .before .before .before .before .before .before .before in
     (sound-run e, rw (c .before .before .chosen .ensures) (countable e), e .before .before .before .layout-of .ensures)
 
 returns-4 : tie.Need-returns-4
 returns-4 c =
     let k = c .before in
-    let n = k .before .before .before .before in
+    let n = k .before .before .before .before .before in
     let e = n .before .before .before in
     stepped _ _ _ (e .before .before .can-go-on .ensures) (e .before .is-accepted .ensures) _ (eq-eqb _ _ (n .if2 .left)) _ (k .before .before .chosen .ensures) (not-false _ (e .if1 .left)) (sym (k .before .kind-fits .ensures) ∙ not-false _ (k .if3 .left)) _ (c .next-run .ensures)
 
@@ -79,6 +82,7 @@ step-spec =
     returns
     returns-2
     past-of-requires
+    ready-requires
     chosen-requires
     kind-fits-requires
     returns-3

@@ -6,17 +6,17 @@ use lib.Count.{trailingZeros}
 use lib.Pow.{pow-pos}
 use Rattle.plan.specs.Limits.{maxJobs}
 use Rattle.executive.specs.Choice.{earliestFrom, earliest}
-use Rattle.executive.specs.Ready.{membersOf, slotOf}
+use Rattle.executive.specs.Ready.{membersOf, planOf, slotOf}
 use Rattle.executive.specs.ReadyLaws.{Lowest, lowest, one-shl, turn, turn-le, walk-end}
 use Rattle.executive.proofs.ready.earliest.Statement.{statement}
 use Rattle.executive.proofs.ready.earliest.Tie as tie
 use borrow.Author.Needs.{needs}
 
 abbrev Inv-loop : tie.InvT-loop
-Inv-loop set p best₀ rest₀ best rest = (best ≤ maxJobs) × (rest < 2 ^ maxJobs) × (earliestFrom p (slotOf best) 1 (membersOf maxJobs rest) ≡ earliest p (membersOf maxJobs set))
+Inv-loop set job best₀ rest₀ best rest = (best ≤ maxJobs) × (rest < 2 ^ maxJobs) × (earliestFrom (planOf job) (slotOf best) 1 (membersOf maxJobs rest) ≡ earliest (planOf job) (membersOf maxJobs set))
 
 abbrev μ-loop : tie.MeasureT-loop
-μ-loop set p best₀ rest₀ best rest = rest
+μ-loop set job best₀ rest₀ best rest = rest
 
 -- the lowest member is within the set
 low : (c : tie.In-loop Inv-loop μ-loop) → Lowest 32 (c .before .loop .rest) (trailingZeros 32 (c .before .loop .rest))
@@ -35,8 +35,8 @@ cast-at c = omega (arith, low c .within)
 mul-j : tie.Need-mul-j Inv-loop μ-loop
 mul-j c = omega (arith, low c .within)
 
-element-copy-out-j : tie.Need-element-copy-out-j Inv-loop μ-loop
-element-copy-out-j c = omega (arith, low c .within)
+array-copy-out-j : tie.Need-array-copy-out-j Inv-loop μ-loop
+array-copy-out-j c = omega (arith, low c .within)
 
 index-requires : tie.Need-index-requires Inv-loop μ-loop
 index-requires c κs = search needs
@@ -44,8 +44,8 @@ index-requires c κs = search needs
 mul-first : tie.Need-mul-first Inv-loop μ-loop
 mul-first c = omega (arith, c .index .ensures)
 
-element-copy-out-first : tie.Need-element-copy-out-first Inv-loop μ-loop
-element-copy-out-first c = omega (arith, c .index .ensures)
+array-copy-out-first : tie.Need-array-copy-out-first Inv-loop μ-loop
+array-copy-out-first c = omega (arith, c .index .ensures)
 
 cast-k : tie.Need-cast-k Inv-loop μ-loop
 cast-k c = omega (arith, low (c .before .before .before) .within)
@@ -71,7 +71,7 @@ loop-again : tie.Need-loop-again Inv-loop μ-loop
 loop-again c =
     let l = c .before .before .before .before in
     let v = l .before .loop in
-    let p = l .before .before .args .t1 in
+    let p = planOf (l .before .before .args .t1) in
     let won = c .winner .ensures in
     let b = c .before .before .index .ensures .0 in
     rw (shl l)
@@ -84,7 +84,7 @@ returns : tie.Need-returns Inv-loop μ-loop
 returns c =
     let v = c .before .before .loop in
     let z : v .rest ≡ 0 = omega arith in
-    c .slot-of .ensures ∙ sym (walk-end (c .before .before .before .args .t1) (slotOf (v .best)) 1 32) ∙ (rw z at (v .inv .2))
+    c .slot-of .ensures ∙ sym (walk-end (planOf (c .before .before .before .args .t1)) (slotOf (v .best)) 1 32) ∙ (rw z at (v .inv .2))
 
 pub earliest-spec : {M : Type 1} → statement M
 earliest-spec =
@@ -95,10 +95,10 @@ earliest-spec =
     loop-holds
     cast-at
     mul-j
-    element-copy-out-j
+    array-copy-out-j
     index-requires
     mul-first
-    element-copy-out-first
+    array-copy-out-first
     cast-k
     add-k
     winner-requires

@@ -1,0 +1,95 @@
+-- `every_settled` meets its contract. The invariant: the test from here on is the whole test.
+use Prim.Native.Nat.{_≤_, _-_}
+use native.Mathlib.Omega.{arith}
+use mathlib.Core.Path.{_≡_, refl, sym, _∙_}
+use borrow.Author.Tests.{not-true, not-false}
+use lib.ListN.{length, take, drop}
+use Rattle.words.specs.ListLaws.{long}
+use Rattle.plan.specs.Limits.{maxJobs}
+use Rattle.executive.specs.Step.{everySettled}
+use Rattle.executive.specs.StepLaws.{settled-on, settled-not, settled-end}
+use Rattle.executive.proofs.stepping.every_settled.Statement.{statement}
+use Rattle.executive.proofs.stepping.every_settled.Tie as tie
+use borrow.Author.Needs.{needs}
+
+abbrev Inv-loop : tie.InvT-loop
+Inv-loop n job entry counts i₀ i = (i ≤ n) × (everySettled (drop i (take n job)) (drop i entry) (drop i counts) ≡ everySettled (take n job) entry counts)
+
+abbrev μ-loop : tie.MeasureT-loop
+μ-loop n job entry counts i₀ i = n - i
+
+jobs-full : (c : tie.Start Inv-loop μ-loop) → c .args .n ≤ length (c .args .t1)
+jobs-full c = let l : length (c .args .t1) ≡ maxJobs = search (needs, long) in omega (arith, c .pre)
+
+entries-full : (c : tie.Start Inv-loop μ-loop) → c .args .n ≤ length (c .args .t2)
+entries-full c = let l : length (c .args .t2) ≡ maxJobs = search (needs, long) in omega (arith, c .pre)
+
+counts-full : (c : tie.Start Inv-loop μ-loop) → c .args .n ≤ length (c .args .t3)
+counts-full c = let l : length (c .args .t3) ≡ maxJobs = search needs in omega (arith, c .pre)
+
+loop-holds : tie.Need-loop-holds Inv-loop μ-loop
+loop-holds c = (search needs, refl)
+
+mul-j : tie.Need-mul-j Inv-loop μ-loop
+mul-j c = search needs
+
+array-copy-out-j : tie.Need-array-copy-out-j Inv-loop μ-loop
+array-copy-out-j c = search needs
+
+mul-e : tie.Need-mul-e Inv-loop μ-loop
+mul-e c = search needs
+
+array-copy-out-e : tie.Need-array-copy-out-e Inv-loop μ-loop
+array-copy-out-e c = search needs
+
+mul-settled : tie.Need-mul-settled Inv-loop μ-loop
+mul-settled c = search needs
+
+array-read-settled : tie.Need-array-read-settled Inv-loop μ-loop
+array-read-settled c = search needs
+
+settled-requires : tie.Need-settled-requires Inv-loop μ-loop
+settled-requires c κs = search needs
+
+returns : tie.Need-returns Inv-loop μ-loop
+returns c =
+    let l = c .before .before .before .before .before in
+    let s = l .before in
+    settled-not _ _ _ _ _ _ _ (jobs-full s) (entries-full s) (counts-full s) (c .before .before .before .before .loop-test .taken) (sym (c .before .settled .ensures) ∙ not-true _ (c .if1 .taken)) ∙ l .loop .inv .1
+
+add-i : tie.Need-add-i Inv-loop μ-loop
+add-i c = search needs
+
+loop-less : tie.Need-loop-less Inv-loop μ-loop
+loop-less c = search needs
+
+loop-again : tie.Need-loop-again Inv-loop μ-loop
+loop-again c =
+    let l = c .before .before .before .before .before in
+    let s = l .before in
+    (search needs, settled-on _ _ _ _ _ _ _ (jobs-full s) (entries-full s) (counts-full s) (c .before .before .before .before .loop-test .taken) (sym (c .before .settled .ensures) ∙ not-false _ (c .if1 .left)) ∙ l .loop .inv .1)
+
+returns-2 : tie.Need-returns-2 Inv-loop μ-loop
+returns-2 c =
+    let s = c .before .before in
+    settled-end _ _ _ _ _ (jobs-full s) (c .loop-test .left) ∙ c .before .loop .inv .1
+
+pub every-settled-spec : {M : Type 1} → statement M
+every-settled-spec =
+    tie.close
+    (tie.spec
+    Inv-loop
+    μ-loop
+    loop-holds
+    mul-j
+    array-copy-out-j
+    mul-e
+    array-copy-out-e
+    mul-settled
+    array-read-settled
+    settled-requires
+    returns
+    add-i
+    loop-less
+    loop-again
+    returns-2)

@@ -1,0 +1,16 @@
+-- A run's parts, where a function is given them alone: its jobs and their entries. The run's own definitions are in Coherent.
+use Prim.Native.Nat.{ℕ}
+use mathlib.Core.Bool.{Bool}
+use mathlib.Core.List.{List, zipWith}
+use Rattle.words.specs.Words.{every}
+use Rattle.plan.specs.declared.Job.{Job}
+use Rattle.executive.specs.declared.Entry.{Entry}
+use Rattle.executive.specs.Coherent.{standingHolds}
+
+-- what coherence asks of one job's entry
+abbrev pub entryHolds : ℕ → Job → Entry → Bool
+entryHolds t j e = standingHolds t (j .hi) (e .given) (e .standing)
+
+-- and of each job's
+unfoldable pub allHold : ℕ → List Job → List Entry → Bool
+allHold t js es = every (zipWith (entryHolds t) js es)
