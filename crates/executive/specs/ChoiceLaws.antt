@@ -4,14 +4,14 @@ use mathlib.Core.Bool.{Bool, true, false, not, _&&_}
 use mathlib.Core.Path.{_≡_, sym, ap, _∙_}
 use lib.IntN.{pos}
 use lib.ListN.{getD}
-use Rattle.words.specs.Words.{if_then_else_, _≤?_, below0, above0}
+use Rattle.words.specs.Words.{_≤?_, below0, above0}
 use Rattle.plan.specs.Limits.{maxJobs}
 use Rattle.intervals.specs.Intervals.{intervals, past}
 use Rattle.intervals.specs.Spares.{current}
 use Rattle.executive.specs.declared.Run.{Run}
 use Rattle.executive.specs.declared.Slot.{Slot}
 use Rattle.executive.specs.Run.{live, freshEntry, currentHi, currentLo}
-use Rattle.executive.specs.Choice.{ready, readyHi, setOf, earliest, chosenT, chosenH}
+use Rattle.executive.specs.Choice.{setOf, earliest, chosenT, chosenH}
 use Rattle.executive.specs.Ready.{members, membersOf, planOf}
 use Rattle.executive.specs.ReadyLaws.{Full, members-all, members-hi, walk-members}
 

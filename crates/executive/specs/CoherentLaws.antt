@@ -12,7 +12,7 @@ use Rattle.words.specs.Words.{if_then_else_, _≤?_, _<?_, _=?_, below0, above0
 use Rattle.words.specs.Cases.{both-hold}
 use Rattle.answers.specs.declared.Answer.{Answer}
 use Rattle.answers.specs.declared.Answer.the-variants.{SlotLimit, JobLimit, Budget, TableSlot}
-use Rattle.answers.specs.Answer.{accepted, _unless_, _andThen_, firstRefusal}
+use Rattle.answers.specs.Answer.{accepted, _unless_, _andThen_}
 use Rattle.answers.specs.RefusalLaws.{unless-holds, both-accept, each-accepted}
 use Rattle.plan.specs.declared.Job.{Job}
 use Rattle.plan.specs.declared.Plan.{Plan}

@@ -5,7 +5,7 @@ use native.Mathlib.Omega.{arith}
 use mathlib.Core.Bool.{Bool, true, false}
 use mathlib.Core.Path.{_≡_, refl, sym, ap, _∙_}
 use mathlib.Core.List.{List, [], _∷_, _++_}
-use lib.IntN.{pos}
+use lib.IntN.{ℤ, pos}
 use lib.ListN.{length, take, getD, set, replicate}
 use lib.Seq.{length-take-le}
 use Rattle.plan.specs.declared.Job.{Job}
@@ -16,32 +16,42 @@ use Rattle.plan.specs.Plan.{jobsOf}
 use Rattle.intervals.specs.declared.Interval.{Interval}
 use Rattle.intervals.specs.declared.Layout.{Layout}
 use Rattle.intervals.specs.Intervals.{maxIntervals, intervals}
-use Rattle.intervals.specs.Spares.{remaining, spares, row}
+use Rattle.intervals.specs.Spares.{hiLeft, loLeft, remaining, spares, row}
 use Rattle.intervals.specs.Layout.{layoutOf, rowIn}
 use Rattle.intervals.specs.LayoutLaws.{row-of-layout}
 use Rattle.executive.specs.declared.Entry.{Entry}
 use Rattle.executive.specs.declared.Run.{Run}
-use Rattle.executive.specs.declared.work.Rows.{Rows}
-use Rattle.executive.specs.Run.{hiWork, loWork, freshHi, freshLo}
+use Rattle.executive.specs.declared.work.Work.{Work}
+use Rattle.executive.specs.Run.{live, hiWork, loWork, freshHi, freshLo}
 use Rattle.executive.specs.ReadyLaws.{Full}
 use Rattle.executive.specs.StepLaws.{filled-next}
-use Rattle.executive.specs.Work.{workLeft, workOf, rowsIn}
+use Rattle.executive.specs.Work.{workLeft, workAt, workOf}
 use Rattle.words.specs.ZipLaws.{zipped-length, zipped-at}
 
+-- the work of one job at each level
+module _ (j : Job) (e : Entry) (b : Bool) (x : ℕ) (eb : b ≡ live e) where
+  pub left-hi : x ≡ hiLeft j b (e .given) → x ≡ workLeft true j e
+  unfolding workLeft
+  left-hi p = p ∙ ap (λ (l : Bool). hiLeft j l (e .given)) eb
+
+  pub left-lo : x ≡ loLeft j b (e .given) → x ≡ workLeft false j e
+  unfolding workLeft
+  left-lo p = p ∙ ap (λ (l : Bool). loLeft j l (e .given)) eb
+
 module _ (hi : Bool) (job : List Job) (entry : List Entry) (n : ℕ) (lj : n ≤ length job) (le : n ≤ length entry) where
-  pub work-length : length (workOf hi (take n job) entry) ≡ n
-  unfolding workOf
+  pub work-length : length (workAt hi (take n job) entry) ≡ n
+  unfolding workAt
   work-length = zipped-length (workLeft hi) job entry n lj le
 
-  work-at : (i : ℕ) (j : Job) (e : Entry) → i < n → getD (workOf hi (take n job) entry) i 0 ≡ workLeft hi (getD job i j) (getD entry i e)
-  unfolding workOf
+  work-at : (i : ℕ) (j : Job) (e : Entry) → i < n → getD (workAt hi (take n job) entry) i 0 ≡ workLeft hi (getD job i j) (getD entry i e)
+  unfolding workAt
   work-at i j e h = zipped-at (workLeft hi) job entry n lj le i j e 0 h
 
   -- the work of job i + 1 is stored
-  pub work-turn : (i : ℕ) (j : Job) (e : Entry) (x : ℕ) → i < n → n ≤ maxJobs → x ≡ workLeft hi (getD job i j) (getD entry i e) → set (filled maxJobs 0 (take i (workOf hi (take n job) entry))) i x ≡ filled maxJobs 0 (take (i + 1) (workOf hi (take n job) entry))
-  work-turn i j e x h few p =
+  pub work-turn : (i : ℕ) (j : Job) (e : Entry) (x : ℕ) (ws : List ℕ) → i < n → n ≤ maxJobs → ws ≡ filled maxJobs 0 (take i (workAt hi (take n job) entry)) → x ≡ workLeft hi (getD job i j) (getD entry i e) → set ws i x ≡ filled maxJobs 0 (take (i + 1) (workAt hi (take n job) entry))
+  work-turn i j e x ws h few w p =
       let l = work-length in
-      rw (p ∙ sym (work-at i j e h)) (filled-next maxJobs 0 0 i (workOf hi (take n job) entry) (omega arith) (omega arith))
+      rw (w, p ∙ sym (work-at i j e h)) (filled-next maxJobs 0 0 i (workAt hi (take n job) entry) (omega arith) (omega arith))
 
 -- a row looks at the work of its plan's jobs only
 remaining-front : (e : ℕ) (js : List Job) (ws zs : List ℕ) → length js ≤ length ws → remaining e js (ws ++ zs) ≡ remaining e js ws
@@ -59,19 +69,19 @@ row-front : (p : Plan) (t : ℕ) (ws zs : List ℕ) → length (jobsOf p) ≤ le
 unfolding row
 row-front p t ws zs h = ap (filled maxIntervals (pos 0)) (spares-front t (jobsOf p) ws zs (intervals p) h)
 
--- the rows in the layout of a run's plan are its fresh rows
-module _ (r : Run) (l : Layout) (rows : Rows) (full : Full r) (el : l ≡ layoutOf (r .plan)) (er : rows ≡ rowsIn l (r .t) (jobsOf (r .plan)) (r .job)) where
-  row-of-run : (hi : Bool) → rowIn l (r .t) (filled maxJobs 0 (workOf hi (jobsOf (r .plan)) (r .job))) ≡ row (r .plan) (r .t) (workOf hi (jobsOf (r .plan)) (r .job))
+-- the rows of this work, in the layout of a run's plan, are its fresh rows
+module _ (r : Run) (l : Layout) (work : Work) (full : Full r) (el : l ≡ layoutOf (r .plan)) (ew : work ≡ workOf (jobsOf (r .plan)) (r .job)) where
+  row-of-run : (hi : Bool) → rowIn l (r .t) (filled maxJobs 0 (workAt hi (jobsOf (r .plan)) (r .job))) ≡ row (r .plan) (r .t) (workAt hi (jobsOf (r .plan)) (r .job))
   row-of-run hi =
-      let work = workOf hi (jobsOf (r .plan)) (r .job) in
+      let ws = workAt hi (jobsOf (r .plan)) (r .job) in
       let n = work-length hi (r .plan .job) (r .job) (r .plan .jobs) (omega arith) (omega arith) in
       let j : length (jobsOf (r .plan)) ≡ r .plan .jobs = length-take-le (r .plan .jobs) (r .plan .job) (omega arith) in
-      rw el (row-of-layout (r .plan) (r .t) (filled maxJobs 0 work)) ∙ row-front (r .plan) (r .t) work (replicate (maxJobs - length work) 0) (omega arith)
+      rw el (row-of-layout (r .plan) (r .t) (filled maxJobs 0 ws)) ∙ row-front (r .plan) (r .t) ws (replicate (maxJobs - length ws) 0) (omega arith)
 
-  pub fresh-hi : rows .hi ≡ freshHi r
-  unfolding rowsIn workOf workLeft freshHi hiWork
-  fresh-hi = ap (λ (x : Rows). x .hi) er ∙ row-of-run true
+  pub fresh-hi : (zs : List ℤ) → zs ≡ rowIn l (r .t) (work .hi) → zs ≡ freshHi r
+  unfolding workOf workAt workLeft freshHi hiWork
+  fresh-hi zs e = e ∙ ap (λ (x : Work). rowIn l (r .t) (x .hi)) ew ∙ row-of-run true
 
-  pub fresh-lo : rows .lo ≡ freshLo r
-  unfolding rowsIn workOf workLeft freshLo loWork
-  fresh-lo = ap (λ (x : Rows). x .lo) er ∙ row-of-run false
+  pub fresh-lo : (zs : List ℤ) → zs ≡ rowIn l (r .t) (work .lo) → zs ≡ freshLo r
+  unfolding workOf workAt workLeft freshLo loWork
+  fresh-lo zs e = e ∙ ap (λ (x : Work). rowIn l (r .t) (x .lo)) ew ∙ row-of-run false

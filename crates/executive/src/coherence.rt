@@ -10,7 +10,7 @@ ghost use Rattle.executive.specs.Step.{refreshed};
 use crate::Entry;
 use crate::Run;
 use crate::entries::standing_holds;
-use crate::work::rows_in;
+use crate::work::work_of;
 use intervals::INTERVALS;
 use intervals::Layout;
 use plan::JOBS;
@@ -60,9 +60,11 @@ impl Run {
         let job = p.job;
         let entry = self.job;
         let n = p.jobs as usize;
-        let rows = rows_in(layout, self.t, job, entry, n);
-        let hi = rows.hi;
-        let lo = rows.lo;
+        let work = work_of(job, entry, n);
+        let hi_work = work.hi;
+        let lo_work = work.lo;
+        let hi = intervals::row_of(layout, self.t, hi_work);
+        let lo = intervals::row_of(layout, self.t, lo_work);
         let mut next = self;
         next.hi = hi;
         next.lo = lo;
@@ -88,14 +90,16 @@ impl Run {
         if !entries_hold(self.t, job, entry, n) {
             return false;
         }
-        let rows = rows_in(layout, self.t, job, entry, n);
+        let work = work_of(job, entry, n);
         let hi = self.hi;
-        let fresh_hi = rows.hi;
+        let hi_work = work.hi;
+        let fresh_hi = intervals::row_of(layout, self.t, hi_work);
         if !same_row(hi, fresh_hi) {
             return false;
         }
         let lo = self.lo;
-        let fresh_lo = rows.lo;
+        let lo_work = work.lo;
+        let fresh_lo = intervals::row_of(layout, self.t, lo_work);
         same_row(lo, fresh_lo)
     }
 }

@@ -31,13 +31,7 @@ fn is_member(hi: bool, t: u16, j: Job, e: Entry) -> bool
 }
 
 // The set of the ready ones of the first n jobs, or with `hi` of the ready HI jobs.
-pub(crate) fn ready_set(
-    hi: bool,
-    t: u16,
-    job: [Job; JOBS],
-    entry: [Entry; JOBS],
-    n: usize,
-) -> u32
+pub(crate) fn ready_set(hi: bool, t: u16, job: [Job; JOBS], entry: [Entry; JOBS], n: usize) -> u32
     requires { ⌜ n ≤ maxJobs ⌝ }
     ensures { λ r. ⌜ r ≡ setOf (membersAmong hi t (take n job) entry) ⌝ }
 {

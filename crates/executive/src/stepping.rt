@@ -19,12 +19,7 @@ use plan::JOBS;
 use plan::Job;
 
 // The entries after the first n jobs have met border t; those beyond them stay.
-fn expired_entries(
-    t: u16,
-    job: [Job; JOBS],
-    before: [Entry; JOBS],
-    n: usize,
-) -> [Entry; JOBS]
+fn expired_entries(t: u16, job: [Job; JOBS], before: [Entry; JOBS], n: usize) -> [Entry; JOBS]
     requires { ⌜ n ≤ maxJobs ⌝ }
     ensures { λ r. ⌜ r ≡ expiredEntries t (take n job) before ⌝ }
 {
@@ -41,12 +36,7 @@ fn expired_entries(
 }
 
 // The return test of the first n jobs, job by job against the counts.
-fn every_settled(
-    job: [Job; JOBS],
-    entry: [Entry; JOBS],
-    counts: [u16; JOBS],
-    n: usize,
-) -> bool
+fn every_settled(job: [Job; JOBS], entry: [Entry; JOBS], counts: [u16; JOBS], n: usize) -> bool
     requires { ⌜ n ≤ maxJobs ⌝ }
     ensures { λ r. ⌜ r ≡ everySettled (take n job) entry counts ⌝ }
 {

@@ -13,15 +13,23 @@ full c = record { few = c .pre .0; jobs = search (needs, long); entries = search
 cast-n : tie.Need-cast-n
 cast-n c = search needs
 
-rows-in-requires : tie.Need-rows-in-requires
-rows-in-requires c κs = search needs
+work-of-requires : tie.Need-work-of-requires
+work-of-requires c κs = search needs
+
+row-of-requires : tie.Need-row-of-requires
+row-of-requires c κs = search needs
+
+row-of-requires-2 : tie.Need-row-of-requires-2
+row-of-requires-2 c κs = search needs
 
 returns : tie.Need-returns
 unfolding refreshed
 returns c =
-    let rows = c .before .before in
-    let s = rows .before .before .before .before .before in
-    rw (fresh-hi (s .args .self) _ _ (full s) (s .pre .1) (rows .rows-in .ensures), fresh-lo (s .args .self) _ _ (full s) (s .pre .1) (rows .rows-in .ensures))
+    let w = c .before .before .before .before in
+    let s = w .before .before .before .before .before in
+    rw (fresh-hi (s .args .self) _ _ (full s) (s .pre .1) (w .work-of .ensures) _ (c .before .row-of .ensures), fresh-lo (s .args .self) _ _ (full s) (s .pre .1) (w .work-of .ensures) _ (c .row-of2 .ensures))
 
 pub refreshed-spec : {M : Type 1} → statement M
-refreshed-spec = tie.close (tie.spec cast-n rows-in-requires returns)
+refreshed-spec =
+    tie.close
+    (tie.spec cast-n work-of-requires row-of-requires row-of-requires-2 returns)
