@@ -1,24 +1,23 @@
 -- Laws of lines under more text: how many lines a plan has, a closed line stays as it is, and a report line is decided by its longest form.
 use Prim.Native.Nat.{ℕ, zero, suc, _+_, _*_, _≤_, _<_}
 use Prim.Native.String.{String}
-use native.Mathlib.Nat.{suc-mul, le-of-suc-le-suc}
+use native.Mathlib.Nat.{suc-mul}
 use native.Mathlib.Omega.{arith}
 use mathlib.Core.Path.{_≡_, refl, sym, ap, _∙_}
-use mathlib.Core.Bool.{Bool, true, false}
+use mathlib.Core.Bool.{true}
 use mathlib.Core.List.{List, [], _∷_, _++_}
 use mathlib.Core.Option.{Option, none, some}
-use lib.ListN.{length, take, drop, length-append, length-drop, length-take}
-use lib.Seq.{take-append-le}
-use borrow.Author.Tests.{lt-ltb, leb-true, leb-false}
-use Rattle.words.specs.Words.{if_then_else_, _≤?_, _<?_, _=?_}
+use lib.ListN.{length, take, drop, length-drop, length-take}
+use borrow.Author.Tests.{leb-true, leb-false}
+use Rattle.words.specs.Words.{_≤?_}
 use Rattle.words.specs.Cases.{by-test}
 use Rattle.answers.specs.declared.Answer.{Answer}
 use Rattle.answers.specs.declared.Answer.the-variants.{SlotLimit, JobLimit, Form}
 use Rattle.answers.specs.Answer.{accepted, _unless_}
-use Rattle.lines.specs.Lines.{bytes, LF, sameBytes, number, Cursor, Read, got, refused, Reader, give, onward, _>>=_, must, many, lineLength, begins, valueIn, orForm, field}
+use Rattle.lines.specs.Lines.{bytes, number, Cursor, Read, got, refused, Reader, give, onward, _>>=_, must, many, lineLength, valueIn, orForm, field}
 use Rattle.lines.specs.RoundLaws.{cursor, unread, got-same, onward-back, must-back}
 use Rattle.lines.specs.ReadingLaws.{number-long, same-length}
-use Rattle.lines.specs.DecidedLaws.{Decided, field-decided}
+use Rattle.lines.specs.DecidedLaws.{Decided, value-closed, field-decided}
 use Rattle.plan.specs.declared.Plan.{Plan}
 use Rattle.plan.specs.Limits.{maxSlots, maxJobs, oneTo}
 use Rattle.plan_text.specs.PrefixLaws.{keeps-limit}
@@ -93,16 +92,6 @@ pub plan-line : (s r : List ℕ) (p : Plan) (m : ℕ) → nextPlan (startOf s) �
 plan-line s r p m e = omega (arith, plan-lines (startOf s) (cursor m r) p e)
 
 -- ---- a closed line under more text
-
-line-closed : (s u : List ℕ) → lineLength s < length s → lineLength (s ++ u) ≡ lineLength s
-unfolding lineLength
-line-closed [] u h = absurd (omega arith)
-line-closed (b ∷ s) u h = by-test (b =? LF) (λ e. rw e) (λ e. rw e (ap suc (line-closed s u (le-of-suc-le-suc (rw e at h)))))
-
-value-closed : {A : Type 0} (meaning : List ℕ → Option A) (key s u : List ℕ) → lineLength s < length s → valueIn meaning key (s ++ u) ≡ valueIn meaning key s
-unfolding valueIn
-value-closed meaning key s u h =
-    rw (line-closed s u h, take-append-le (lineLength s) s u (omega arith), lt-ltb (lineLength s) (length (s ++ u)) (omega (arith, length-append s u)), lt-ltb (lineLength s) (length s) h)
 
 -- what is refused on a closed line stays refused
 pub closed-refused : {A : Type 0} (meaning : List ℕ → Option A) (key : String) (l : ℕ) (s u : List ℕ) → lineLength s < length s

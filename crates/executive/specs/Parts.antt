@@ -1,4 +1,4 @@
--- A run's parts, where a function is given them alone: its jobs and their entries. The run's own definitions are in Coherent.
+-- The entries' test of coherence, for a function that is given jobs and entries alone. A run's own is in Coherent.
 use Prim.Native.Nat.{ℕ}
 use mathlib.Core.Bool.{Bool}
 use mathlib.Core.List.{List, zipWith}

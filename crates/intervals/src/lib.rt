@@ -167,10 +167,9 @@ pub fn past_of(l: Layout, t: u16) -> usize
     ensures { λ r. ⌜ r ≡ pastIn l t ⌝ }
 {
     let count = capped(l.count, INTERVALS);
-    let interval = l.interval;
     let mut i: usize = 0;
     while i < count {
-        let x = interval[i];
+        let x = l.interval[i];
         if t < x.end {
             return i;
         }

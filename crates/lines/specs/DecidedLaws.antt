@@ -99,13 +99,13 @@ unfolding lineLength
 line-open [] u h = omega arith
 line-open (b ∷ s) u h = by-test (b =? LF) (λ e. absurd (let z : suc (length s) ≤ 0 = rw e at h in omega arith)) (λ e. rw e (let r = line-open s u (le-of-suc-le-suc (rw e at h)) in omega arith))
 
-module _ {A : Type 0} (meaning : List ℕ → Option A) (key : List ℕ) (longest : ℕ) (short : (v : List ℕ) → longest < length v → meaning v ≡ none) where
-  -- with the line's end in hand, what follows plays no part
-  value-closed : (s u : List ℕ) → lineLength s < length s → valueIn meaning key (s ++ u) ≡ valueIn meaning key s
-  unfolding valueIn
-  value-closed s u h =
-      rw (line-closed s u h, take-append-le (lineLength s) s u (omega arith), lt-ltb (lineLength s) (length (s ++ u)) (omega (arith, length-append s u)), lt-ltb (lineLength s) (length s) h)
+-- with the line's end in hand, what follows plays no part
+pub value-closed : {A : Type 0} (meaning : List ℕ → Option A) (key s u : List ℕ) → lineLength s < length s → valueIn meaning key (s ++ u) ≡ valueIn meaning key s
+unfolding valueIn
+value-closed meaning key s u h =
+    rw (line-closed s u h, take-append-le (lineLength s) s u (omega arith), lt-ltb (lineLength s) (length (s ++ u)) (omega (arith, length-append s u)), lt-ltb (lineLength s) (length s) h)
 
+module _ {A : Type 0} (meaning : List ℕ → Option A) (key : List ℕ) (longest : ℕ) (short : (v : List ℕ) → longest < length v → meaning v ≡ none) where
   -- an open line has no value
   value-open : (s : List ℕ) → length s ≤ lineLength s → valueIn meaning key s ≡ none
   unfolding valueIn
@@ -145,7 +145,7 @@ module _ {A : Type 0} (meaning : List ℕ → Option A) (key : String) (longest 
           let q = same-got e in
           let b = value-bound meaning (bytes key) longest short s v p in
           let c = line-closed s u (b .0) in (
-            rw (value-closed meaning (bytes key) longest short s u (b .0), p, c, drop-append-le (suc (lineLength s)) s u (b .0), q .0, sym (q .1), sym (q .2)),
+            rw (value-closed meaning (bytes key) s u (b .0), p, c, drop-append-le (suc (lineLength s)) s u (b .0), q .0, sym (q .1), sym (q .2)),
             omega (arith, b .0, b .1, ap length (q .2), length-drop (suc (lineLength s)) s),
           )
 
@@ -154,5 +154,5 @@ module _ {A : Type 0} (meaning : List ℕ → Option A) (key : String) (longest 
       stays (some v) l s u x h p e = unread (sym e)
       stays none l s u x h p e =
           by-less (lineLength s) (length s)
-          (λ c. rw (value-closed meaning (bytes key) longest short s u c, p) e)
+          (λ c. rw (value-closed meaning (bytes key) s u c, p) e)
           (λ o. rw (value-long meaning (bytes key) longest short (s ++ u) (omega (arith, line-open s u o))) e)
