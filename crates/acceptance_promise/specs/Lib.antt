@@ -3,6 +3,7 @@ pub mod MemberLaws
 pub mod InOrderLaws
 pub mod CountLaws
 pub mod TableLaws
+pub mod AnswerLaws
 pub mod Chain
 pub mod ChainLaws
 pub mod Spares
@@ -12,3 +13,5 @@ pub mod Check9Laws
 pub mod OneSlot
 pub mod OneSlotLaws
 pub mod Laws
+pub mod Plans
+pub mod Compute

@@ -9,10 +9,9 @@ use mathlib.Core.List.{List}
 use lib.ListN.{length, getD}
 use Rattle.plan.specs.declared.Plan.{Plan}
 use Rattle.plan.specs.Plan.{jobNo, isHi, naming}
-use Rattle.acceptance_promise.specs.Promise.{jobAt, InOrder, A2}
+use Rattle.acceptance_promise.specs.Promise.{JobOf, jobAt, InOrder, A2}
 use Rattle.words.specs.Cases.{never}
-use Rattle.acceptance_promise.specs.InOrderLaws.{in-order}
-use Rattle.acceptance_promise.specs.Laws.{accepted-has}
+use Rattle.acceptance_promise.specs.Laws.{passes-in-order, accepted-has}
 use Rattle.executive.specs.declared.Run.{Run}
 use Rattle.executive.specs.declared.Report.{Report}
 use Rattle.executive.specs.Run.{entryNo, waiting}
@@ -20,7 +19,7 @@ use Rattle.executive.specs.Choice.{chosen}
 use Rattle.executive.specs.Step.{nextRun}
 use Rattle.executive.specs.declared.Standing.{Standing}
 use Rattle.executive.specs.declared.Standing.the-variants.{Waiting, Finished, Cut, Dropped}
-use Rattle.promises.specs.Demands.{JobOf, Event, jobsRun, Demand3a, Demand3b, FinishedInTime, HadWholeBudget, Reached, started, stepped}
+use Rattle.promises.specs.Demands.{Event, jobsRun, Demand3a, Demand3b, FinishedInTime, HadWholeBudget, Reached, started, stepped}
 use Rattle.promises.specs.Runs.{Taken, entryAt, givenAt, Kept}
 use Rattle.promises.specs.Ends.{EndTells, MetIn}
 use Rattle.promises.specs.NextLaws.{next-plan, given-within}
@@ -44,7 +43,7 @@ module _ (p : Plan) (a2 : A2 p) where
 
   -- the invariant
   pub reached-kept : {h : List Event} {r : Run} → Reached p h r → Kept p r
-  reached-kept (started sz e) = rw (start-run p e) (kept-start p (in-order p (sz .0) (sz .1) (accepted-well-formed p (start-accepted p e))) a2)
+  reached-kept (started sz e) = rw (start-run p e) (kept-start p (passes-in-order p sz (accepted-well-formed p (start-accepted p e))) a2)
   reached-kept (stepped {r = r} report q e) = rw (next-run r report e) (kept-step q report (taken r report e) (reached-kept q))
 
   -- over the run's own plan
@@ -53,7 +52,7 @@ module _ (p : Plan) (a2 : A2 p) where
 
   -- every end tells
   pub reached-ends : {h : List Event} {r : Run} → Reached p h r → (k : ℕ) → k < r .plan .jobs → EndTells h (jobAt (r .plan) k) (givenAt r k) (entryAt r k .standing)
-  reached-ends (started sz e) = rw (start-run p e) (λ k l. let q = fresh p (in-order p (sz .0) (sz .1) (accepted-well-formed p (start-accepted p e))) a2 k l in rw q tt)
+  reached-ends (started sz e) = rw (start-run p e) (λ k l. let q = fresh p (passes-in-order p sz (accepted-well-formed p (start-accepted p e))) a2 k l in rw q tt)
   reached-ends (stepped {h = h} {r = r} report q e) =
       rw (next-run r report e, next-plan r (chosen r) (report .kind))
       (λ k l. ends-next h r (reached-recorded q) report (taken r report e) (kept-own q) (reached-t q) k l (reached-ends q k l))
@@ -96,7 +95,7 @@ module _ (p : Plan) (a2 : A2 p) where
 
 -- an accepted plan's A2
 reached-a2 : {p : Plan} {h : List Event} {r : Run} → Reached p h r → A2 p
-reached-a2 {p} (started sz e) = accepted-has p (sz .0) (sz .1) (start-accepted p e) .2
+reached-a2 {p} (started sz e) = accepted-has p sz (start-accepted p e) .2
 reached-a2 (stepped report q e) = reached-a2 q
 
 -- the invariant of every run that comes from a start

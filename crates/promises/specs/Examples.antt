@@ -2,6 +2,7 @@
 use mathlib.Core.Path.{_≡_, refl, sym}
 use mathlib.Core.List.{List, [], _∷_}
 use lib.ListN.{length}
+use Rattle.acceptance_promise.specs.Plans.{A}
 use Rattle.executive.specs.declared.Standing.the-variants.{Finished, Cut}
 use Rattle.executive.specs.declared.Kind.{Kind}
 use Rattle.executive.specs.declared.Kind.the-variants.{End, More, None}
@@ -9,7 +10,6 @@ use Rattle.executive.specs.declared.Report.{Report}
 use Rattle.executive.specs.declared.Run.{Run}
 use Rattle.executive.specs.Run.{start, entryNo}
 use Rattle.promises.specs.Compute.{everything}
-use Rattle.promises.specs.Sums.{A}
 use Rattle.promises.specs.Demands.{Event, Reached, started}
 use Rattle.promises.specs.Runs.{fed}
 use Rattle.promises.specs.History.{reached-t, every-sequence}

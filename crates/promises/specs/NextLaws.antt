@@ -13,6 +13,7 @@ use Rattle.plan.specs.declared.Job.{Job}
 use Rattle.words.specs.Words.{if_then_else_, _≤?_, _=?_}
 use Rattle.plan.specs.Plan.{jobsOf, jobNo, isHi, blankJob}
 use Rattle.words.specs.Cases.{both-hold}
+use Rattle.acceptance_promise.specs.Promise.{JobOf}
 use Rattle.executive.specs.declared.Standing.{Standing}
 use Rattle.executive.specs.declared.Standing.the-variants.{Waiting, Finished, Cut, Dropped}
 use Rattle.executive.specs.declared.Entry.{Entry}
@@ -25,7 +26,7 @@ use Rattle.executive.specs.declared.Kind.the-variants.{End, More, None}
 use Rattle.executive.specs.Run.{live, waiting, entryNo, freshEntry, freshHi, freshLo, hiWork, loWork}
 use Rattle.executive.specs.Coherent.{standingHolds}
 use Rattle.executive.specs.Step.{standingAfter, ranOn, entriesAfter, reported, expiredEntry, expiredEntries, expired, overrun, canReturn, phaseAfter, judged, refreshed, nextRun}
-use Rattle.promises.specs.Demands.{JobOf, jobRun, firstEnd}
+use Rattle.promises.specs.Demands.{jobRun, firstEnd}
 use Rattle.promises.specs.Runs.{reportedEntry, entryAfter, leftAlone}
 use Rattle.promises.specs.General.{joined}
 

@@ -14,7 +14,7 @@ use Rattle.plan.specs.declared.Plan.{Plan}
 use Rattle.plan.specs.Limits.{maxJobs}
 use Rattle.plan.specs.CountLaws.{counts-length, counts-at}
 use Rattle.plan.specs.Plan.{jobsOf, jobNo, isHi, blankJob, countsAt}
-use Rattle.acceptance_promise.specs.Promise.{jobAt, tab}
+use Rattle.acceptance_promise.specs.Promise.{JobOf, jobAt, tab}
 use Rattle.words.specs.Cases.{both-hold}
 use Rattle.acceptance_promise.specs.OneSlot.{OnTable}
 use Rattle.executive.specs.declared.Entry.{Entry}
@@ -23,7 +23,6 @@ use Rattle.executive.specs.declared.Run.{Run}
 use Rattle.executive.specs.declared.Slot.{Slot}
 use Rattle.executive.specs.Run.{live, entryNo, freshEntry}
 use Rattle.executive.specs.Step.{pastLo, overrun, settled, everySettled, canReturn}
-use Rattle.promises.specs.Demands.{JobOf}
 use Rattle.promises.specs.Runs.{entryAt, givenAt, liveAt}
 
 -- ---- places and numbers

@@ -13,7 +13,7 @@ use Rattle.plan.specs.declared.Plan.{Plan}
 use Rattle.plan.specs.Limits.{maxJobs}
 use Rattle.plan.specs.Plan.{jobNo, isHi}
 use Rattle.acceptance.specs.Acceptance.{wellFormed}
-use Rattle.acceptance_promise.specs.Promise.{jobAt, windowsOf, InOrder}
+use Rattle.acceptance_promise.specs.Promise.{JobOf, Sized, jobAt, windowsOf, InOrder}
 use Rattle.acceptance_promise.specs.OneSlot.{hiRemaining, OnTable}
 use Rattle.executive.specs.declared.Standing.{Standing}
 use Rattle.executive.specs.declared.Standing.the-variants.{Waiting, Dropped}
@@ -27,7 +27,7 @@ use Rattle.executive.specs.Coherent.{standingHolds, coherent}
 use Rattle.executive.specs.Choice.{chosen}
 use Rattle.executive.specs.Step.{ranOn, expiredEntry, kindFits, step}
 use Rattle.executive.specs.declared.Stepped.{Stepped}
-use Rattle.promises.specs.Demands.{JobOf, Sized, Event, event, Reached}
+use Rattle.promises.specs.Demands.{Event, event, Reached}
 
 -- ---- one step
 

@@ -21,8 +21,8 @@ use Rattle.words.specs.Cases.{never}
 use Rattle.acceptance_promise.specs.InOrderLaws.{job-no}
 use Rattle.acceptance_promise.specs.CountLaws.{tab-start, tab-split, tab-mono}
 use Rattle.acceptance_promise.specs.TableLaws.{asked-high, asked-case, tab-due, coming-open}
-use Rattle.promises.specs.Hopeless.{Needs, Continues, Serves, Hopeless}
-use Rattle.promises.specs.ExactRun.{First, first-of, place-of, in-window, run-names, Overrun, overruns-at, overrun-of, overrun?, overruns-by}
+use Rattle.exact.specs.Hopeless.{Needs, Continues, Serves, Hopeless}
+use Rattle.exact.specs.ExactRun.{First, first-of, place-of, in-window, run-names, Overrun, overruns-at, overrun-of, overrun?, overruns-by}
 
 -- the needs that a refusal at (t, e) shows
 unfoldable pub worst : Plan → ℕ → ℕ → ℕ → ℕ

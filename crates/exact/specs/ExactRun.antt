@@ -1,6 +1,6 @@
--- The table run and its overruns, for the proof of demand 3's last sentence: what the run gives each job, and the first overrun found.
+-- The table run and its overruns, for the proof of demand 3's last sentence: what the run gives each job, the first overrun found, and that without one it serves.
 -- Jobs are counted by their place, from 0, as in the acceptance promise.
-use Prim.Native.Nat.{ℕ, zero, suc, _-_, _≤_, _<_, min, zero-le}
+use Prim.Native.Nat.{ℕ, zero, suc, _+_, _-_, _≤_, _<_, min, zero-le}
 use native.Mathlib.Decide.{decLe, ℕ-discrete}
 use native.Mathlib.Nat.{not-suc-le-zero}
 use native.Mathlib.Omega.{arith}
@@ -8,20 +8,20 @@ use mathlib.Core.Path.{_≡_, refl, sym, _∙_}
 use mathlib.Core.Logic.{_⊎_, inl, inr}
 use mathlib.Core.Bool.{Bool, true, false}
 use mathlib.Core.List.{List}
-use lib.ListN.{getD}
+use lib.ListN.{length, getD, length-map}
 use borrow.Author.Tests.{lt-ltb, le-ltb}
-use Rattle.words.specs.Words.{if_then_else_, _<?_}
+use Rattle.words.specs.Words.{if_then_else_, _<?_, countUp}
 use Rattle.windows.specs.SumLaws.{same-yes, same-no}
 use Rattle.windows.specs.Orders.{given}
-use Rattle.windows.specs.SlotLaws.{given-last}
+use Rattle.windows.specs.SlotLaws.{given-last, given-joined, given-agree}
 use Rattle.plan.specs.declared.Plan.{Plan}
 use Rattle.plan.specs.Plan.{isHi, tableAt, tableSlots}
-use Rattle.acceptance_promise.specs.Promise.{jobAt, tab, InOrder}
+use Rattle.plan.specs.CountLaws.{countUp-length, countUp-at}
+use Rattle.acceptance_promise.specs.Promise.{JobOf, inWindow, jobAt, tab, InOrder}
 use Rattle.words.specs.Cases.{never}
 use Rattle.acceptance_promise.specs.InOrderLaws.{job-no}
 use Rattle.acceptance_promise.specs.CountLaws.{naming-window, tab-start, tab-last, tab-reach}
-use Rattle.promises.specs.Demands.{JobOf, inWindow}
-use Rattle.promises.specs.Hopeless.{tableRun, OverrunsAt}
+use Rattle.exact.specs.Hopeless.{tableRun, slotsBy, OverrunsAt, Serves}
 
 -- the first number with a property, or none up to m has it
 abbrev pub First : (ℕ → Type 0) → ℕ → Type 0
@@ -52,6 +52,26 @@ place-of p k h = let a = h .0 in let b = h .1 in (k - 1, omega arith, omega arit
 -- the slots of an order that a job has in its window
 pub in-window : (p : Plan) (k : ℕ) (order : List ℕ) → inWindow p (suc k) order ≡ given (λ s. getD order s 0) (suc k) (jobAt p k .release) (jobAt p k .deadline)
 in-window p k order = rw (job-no p k) (naming-window order k (jobAt p k .release) (jobAt p k .deadline))
+
+-- ---- the list of the N slots
+module _ (p : Plan) (who : ℕ → ℕ) where
+  -- it has N slots
+  pub slots-by-long : length (slotsBy p who) ≡ p .slots
+  slots-by-long = length-map (countUp 0 (p .slots)) who ∙ countUp-length 0 (p .slots)
+
+  -- slot s of it
+  pub slots-by-at : (s : ℕ) → s < p .slots → getD (slotsBy p who) s 0 ≡ who s
+  slots-by-at s l = let e : 0 + s ≡ s = omega arith in rw e at (countUp-at who 0 0 (p .slots) s l)
+
+  -- it serves where each HI job has what it needs between its release and its deadline
+  pub slots-by-serves : (need : ℕ → ℕ) → InOrder p
+      → ((k : ℕ) → k < p .jobs → isHi (jobAt p k) ≡ true → need (suc k) ≤ given who (suc k) (jobAt p k .release) (jobAt p k .deadline)) → Serves p need (slotsBy p who)
+  slots-by-serves need ok enough n h high =
+      let i = place-of p n h in
+      let k = i .0 in
+      let level : isHi (jobAt p k) ≡ true = rw (i .1, job-no p k) at high in
+      let a = given-agree (λ s. getD (slotsBy p who) s 0) who (suc k) (jobAt p k .release) (jobAt p k .deadline) (λ s m l. slots-by-at s (omega (arith, ok .ends k (i .2)))) in
+      rw (i .1) (omega (arith, in-window p k (slotsBy p who), enough k (i .2) level))
 
 module _ (p : Plan) (need : ℕ → ℕ) where
   -- ---- what the table run gives
@@ -161,3 +181,17 @@ module _ (p : Plan) (need : ℕ → ℕ) where
   overruns-by ok k t l h m b full =
       let r = tab-reach p k t (jobAt p k .lo) (ok .some k l) full in
       (suc (r .0), r .1, record { who = k; slot = r .0; border = refl; inside = omega (arith, r .1); there = l; named = r .2; high = h; last = r .3; more = m })
+
+  -- without an overrun no HI job needs more than lo, and those slots it has by the table
+  pub run-serves : InOrder p → ((t : ℕ) → OverrunsAt p need t → ⊥) → Serves p need (slotsBy p (tableRun p need))
+  run-serves ok none = slots-by-serves p (tableRun p need) need ok (λ k l high. enough k l high (decLe (need (suc k)) (jobAt p k .lo)))
+    where
+      enough : (k : ℕ) → k < p .jobs → isHi (jobAt p k) ≡ true → Dec (need (suc k) ≤ jobAt p k .lo)
+          → need (suc k) ≤ given (tableRun p need) (suc k) (jobAt p k .release) (jobAt p k .deadline)
+      enough k l high (yes q) =
+          let inside = given-joined (tableRun p need) (suc k) (jobAt p k .release) (jobAt p k .deadline) (p .slots) (omega (arith, ok .window k l))
+          (λ s m e. let n = ok .names s m k (run-names s k e) in (n .1, n .2)) in
+          omega (arith, inside, run-gives (tableRun p need) k (p .slots) (λ s m. refl), ok .full k l)
+      enough k l high (no q) = absurd
+          (let o = overruns-by ok k (p .slots) l high (omega arith) (omega arith) (omega (arith, ok .full k l)) in
+          none (o .0) (overruns-at (o .0) (o .2)))
