@@ -31,7 +31,7 @@ use Rattle.words.specs.ZipLaws.{zipped-at}
 use Rattle.executive.specs.Coherent.{standingHolds}
 use Rattle.executive.specs.Choice.{chosen, earliest, readyHi}
 use Rattle.executive.specs.Step.{overrun, canReturn, phaseAfter, nextRun}
-use Rattle.promises.specs.Demands.{jobRun}
+use Rattle.promises.specs.Told.{jobRun}
 use Rattle.promises.specs.Runs.{entryAfter, Taken, Recorded, entryAt, givenAt, liveAt, Kept}
 use Rattle.promises.specs.Chosen.{Ready}
 use Rattle.promises.specs.EarliestLaws.{leads-deadline}

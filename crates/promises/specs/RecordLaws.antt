@@ -31,7 +31,7 @@ use Rattle.executive.specs.Choice.{chosen, ready, choose, canGoOn, howMany}
 use Rattle.executive.specs.Step.{nextRun, kindFits, reportAnswer, step}
 use Rattle.executive.specs.declared.Kind.{Kind}
 use Rattle.executive.specs.declared.Kind.the-variants.{None}
-use Rattle.promises.specs.Demands.{jobRun}
+use Rattle.promises.specs.Told.{jobRun}
 use Rattle.promises.specs.Runs.{entryAfter, Taken, Recorded}
 use Rattle.promises.specs.Chosen.{Ready}
 use Rattle.promises.specs.General.{joined, zip-every}
