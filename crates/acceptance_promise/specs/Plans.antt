@@ -1,4 +1,4 @@
--- The plans of document 01, written as the document writes them. Definitions only.
+-- The plans of document 01, written as the document writes them, and two smaller ones. Definitions only.
 use Prim.Native.Nat.{ℕ}
 use mathlib.Core.List.{List, [], _∷_}
 use lib.ListN.{length}
@@ -33,3 +33,11 @@ one h = plan 8 (HI 2 4 1 h ∷ []) (0 ∷ 0 ∷ 1 ∷ [])
 
 abbrev pub borrowing : Plan
 borrowing = plan 12 (HI 5 8 1 1 ∷ HI 0 12 10 10 ∷ []) []
+
+-- one job HI, 5, 8, 1, 1: the first interval is empty and ends at its release
+abbrev pub late : Plan
+late = plan 8 (HI 5 8 1 1 ∷ []) (0 ∷ 0 ∷ 0 ∷ 0 ∷ 0 ∷ 1 ∷ [])
+
+-- one slot, and one job that has it
+abbrev pub oneSlot : Plan
+oneSlot = plan 1 (HI 0 1 1 1 ∷ []) (1 ∷ [])

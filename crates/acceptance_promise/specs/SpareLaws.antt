@@ -55,7 +55,7 @@ above-is {z = negsuc n} h l = absurd (omega arith)
 
 -- ---- rows
 -- beyond its list an array of fillers has the filler too
-getD-filled : {A : Type 0} (z : A) (xs : List A) (n i : ℕ) → getD (xs ++ replicate n z) i z ≡ getD xs i z
+pub getD-filled : {A : Type 0} (z : A) (xs : List A) (n i : ℕ) → getD (xs ++ replicate n z) i z ≡ getD xs i z
 getD-filled z [] zero i = refl
 getD-filled z [] (suc n) zero = refl
 getD-filled z [] (suc n) (suc i) = getD-filled z [] n i

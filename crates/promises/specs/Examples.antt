@@ -2,11 +2,10 @@
 -- refused reports in between leave no trace; a plan of one slot runs and is over; a refused plan has no run. By computation.
 use Prim.Native.Nat.{ℕ}
 use mathlib.Core.Path.{_≡_, refl, sym}
-use mathlib.Core.List.{List, [], _∷_}
+use mathlib.Core.List.{List}
 use lib.ListN.{length}
 use Rattle.answers.specs.declared.Answer.the-variants.{Accepted, Overdrawn, Incoherent, Over, OtherSlot, WrongKind}
-use Rattle.plan.specs.declared.Plan.{Plan}
-use Rattle.acceptance_promise.specs.Plans.{HI, plan, A, B}
+use Rattle.acceptance_promise.specs.Plans.{A, B, oneSlot}
 use Rattle.executive.specs.declared.Standing.the-variants.{Finished, Cut}
 use Rattle.executive.specs.declared.Phase.the-variants.{T}
 use Rattle.executive.specs.declared.Slot.{Slot}
@@ -74,9 +73,6 @@ unfolding everything held
 refused-between = (refl, refl, refl)
 
 -- ---- a plan of one slot
-
-abbrev pub oneSlot : Plan
-oneSlot = plan 1 (HI 0 1 1 1 ∷ []) (1 ∷ [])
 
 -- its job has the slot; then t = N, both rows are 0, and both calls are refused 11 at 1
 pub one-slot-runs :
