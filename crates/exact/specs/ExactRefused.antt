@@ -18,11 +18,11 @@ use Rattle.plan.specs.declared.Plan.{Plan}
 use Rattle.plan.specs.Plan.{isHi, tableAt}
 use Rattle.acceptance_promise.specs.Promise.{jobAt, windowsOf, tab, InOrder, asked}
 use Rattle.words.specs.Cases.{never}
-use Rattle.acceptance_promise.specs.InOrderLaws.{job-no}
+use Rattle.acceptance_promise.specs.InOrderLaws.{job-no, place-of}
 use Rattle.acceptance_promise.specs.CountLaws.{tab-start, tab-split, tab-mono}
 use Rattle.acceptance_promise.specs.TableLaws.{asked-high, asked-case, tab-due, coming-open}
 use Rattle.exact.specs.Hopeless.{Needs, Continues, Serves, Hopeless}
-use Rattle.exact.specs.ExactRun.{First, first-of, place-of, in-window, run-names, Overrun, overruns-at, overrun-of, overrun?, overruns-by}
+use Rattle.exact.specs.ExactRun.{First, first-of, in-window, run-names, Overrun, overruns-at, overrun-of, overrun?, overruns-by}
 
 -- the needs that a refusal at (t, e) shows
 unfoldable pub worst : Plan → ℕ → ℕ → ℕ → ℕ
@@ -71,7 +71,8 @@ module _ (p : Plan) (t e : ℕ) where
     worst-needs : Needs p (worst p t e)
     worst-needs n h =
         let i = place-of p n h in
-        rw (i .1, job-no p (i .0)) (⊎-elim (λ w. omega (arith, w .needs)) (λ w. omega (arith, w .0, ok .budget (i .0) (i .2))) (worst-case (i .0)))
+        let k = n - 1 in
+        rw (i .0, job-no p k) (⊎-elim (λ w. omega (arith, w .needs)) (λ w. omega (arith, w .0, ok .budget k (i .1))) (worst-case k))
 
     -- no overrun up to t
     worst-early : (u : ℕ) → u ≤ t → Overrun p (worst p t e) u → ⊥

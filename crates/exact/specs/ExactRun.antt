@@ -17,9 +17,9 @@ use Rattle.windows.specs.SlotLaws.{given-last, given-joined, given-agree}
 use Rattle.plan.specs.declared.Plan.{Plan}
 use Rattle.plan.specs.Plan.{isHi, tableAt, tableSlots}
 use Rattle.plan.specs.CountLaws.{countUp-length, countUp-at}
-use Rattle.acceptance_promise.specs.Promise.{JobOf, inWindow, jobAt, tab, InOrder}
+use Rattle.acceptance_promise.specs.Promise.{inWindow, jobAt, tab, InOrder}
 use Rattle.words.specs.Cases.{never}
-use Rattle.acceptance_promise.specs.InOrderLaws.{job-no}
+use Rattle.acceptance_promise.specs.InOrderLaws.{job-no, place-of}
 use Rattle.acceptance_promise.specs.CountLaws.{naming-window, tab-start, tab-last, tab-reach}
 use Rattle.exact.specs.Hopeless.{tableRun, slotsBy, OverrunsAt, Serves}
 
@@ -45,10 +45,6 @@ first-of P dec (suc m) = go (first-of P dec m) (dec (suc m))
         below u l h (yes w) = n u w h
         below u l h (no w) = let e : u ≡ suc m = omega arith in q (rw e at h)
 
--- the number of a job of the plan is one more than its place
-pub place-of : (p : Plan) (k : ℕ) → JobOf p k → (i : ℕ) × (k ≡ suc i) × (i < p .jobs)
-place-of p k h = let a = h .0 in let b = h .1 in (k - 1, omega arith, omega arith)
-
 -- the slots of an order that a job has in its window
 pub in-window : (p : Plan) (k : ℕ) (order : List ℕ) → inWindow p (suc k) order ≡ given (λ s. getD order s 0) (suc k) (jobAt p k .release) (jobAt p k .deadline)
 in-window p k order = rw (job-no p k) (naming-window order k (jobAt p k .release) (jobAt p k .deadline))
@@ -68,10 +64,10 @@ module _ (p : Plan) (who : ℕ → ℕ) where
       → ((k : ℕ) → k < p .jobs → isHi (jobAt p k) ≡ true → need (suc k) ≤ given who (suc k) (jobAt p k .release) (jobAt p k .deadline)) → Serves p need (slotsBy p who)
   slots-by-serves need ok enough n h high =
       let i = place-of p n h in
-      let k = i .0 in
-      let level : isHi (jobAt p k) ≡ true = rw (i .1, job-no p k) at high in
-      let a = given-agree (λ s. getD (slotsBy p who) s 0) who (suc k) (jobAt p k .release) (jobAt p k .deadline) (λ s m l. slots-by-at s (omega (arith, ok .ends k (i .2)))) in
-      rw (i .1) (omega (arith, in-window p k (slotsBy p who), enough k (i .2) level))
+      let k = n - 1 in
+      let level : isHi (jobAt p k) ≡ true = rw (i .0, job-no p k) at high in
+      let a = given-agree (λ s. getD (slotsBy p who) s 0) who (suc k) (jobAt p k .release) (jobAt p k .deadline) (λ s m l. slots-by-at s (omega (arith, ok .ends k (i .1)))) in
+      rw (i .0) (omega (arith, in-window p k (slotsBy p who), enough k (i .1) level))
 
 module _ (p : Plan) (need : ℕ → ℕ) where
   -- ---- what the table run gives
@@ -136,17 +132,17 @@ module _ (p : Plan) (need : ℕ → ℕ) where
   pub overrun-of : (t : ℕ) → OverrunsAt p need t → Overrun t
   overrun-of t o =
       let i = place-of p (o .job) (o .ofPlan) in
-      let k = i .0 in
+      let k = o .job - 1 in
       record {
         who = k;
         slot = o .slot;
         border = o .border;
         inside = o .inside;
-        there = i .2;
-        named = o .named ∙ i .1;
-        high = rw (i .1, job-no p k) at (o .high);
-        last = rw (i .1, job-no p k, o .border) at (o .last);
-        more = rw (i .1, job-no p k) at (o .more);
+        there = i .1;
+        named = o .named ∙ i .0;
+        high = rw (i .0, job-no p k) at (o .high);
+        last = rw (i .0, job-no p k, o .border) at (o .last);
+        more = rw (i .0, job-no p k) at (o .more);
       }
 
   -- whether there is one at t

@@ -11,6 +11,7 @@ use Rattle.plan.specs.declared.Plan.{Plan}
 use Rattle.plan.specs.Plan.{jobNo, isHi, naming}
 use Rattle.acceptance_promise.specs.Promise.{JobOf, jobAt, InOrder, A2}
 use Rattle.words.specs.Cases.{never}
+use Rattle.acceptance_promise.specs.InOrderLaws.{place-of}
 use Rattle.acceptance_promise.specs.Laws.{passes-in-order, accepted-has}
 use Rattle.executive.specs.declared.Run.{Run}
 use Rattle.executive.specs.declared.Report.{Report}
@@ -24,7 +25,6 @@ use Rattle.promises.specs.Runs.{Taken, entryAt, givenAt, Kept}
 use Rattle.promises.specs.Ends.{EndTells, MetIn}
 use Rattle.promises.specs.NextLaws.{next-plan, given-within}
 use Rattle.promises.specs.RecordLaws.{next-run, taken, start-accepted, start-run, accepted-well-formed}
-use Rattle.promises.specs.PhaseLaws.{place-of}
 use Rattle.promises.specs.KeptLaws.{live-open, kept-next, fresh, kept-start}
 use Rattle.promises.specs.EndLaws.{naming-inside}
 use Rattle.promises.specs.History.{reached-plan, reached-recorded, reached-t, reached-given}
@@ -114,7 +114,7 @@ demand-3b p h r q k l low due phase = reached-met p (reached-a2 q) q k l due (in
 pub all-hi-met : (p : Plan) (h : List Event) (r : Run) → Reached p h r → r .t ≡ p .slots → (k : ℕ) → JobOf p k → isHi (jobNo p k) ≡ true → FinishedInTime p r k ⊎ HadWholeBudget p h r k
 all-hi-met p h r q over k l high =
     let order : InOrder p = subst InOrder (reached-plan q) (reached-recorded q .order) in
-    let ends = order .ends (k - 1) (place-of p k l) in
+    let ends = order .ends (k - 1) (place-of p k l .1) in
     demand-3a p h r q k l high (omega arith)
 
 -- no job has a slot outside its window
@@ -124,8 +124,8 @@ never-outside p h r q = subst (λ (x : Plan). (k : ℕ) → JobOf x k → (s : �
   where
     own : (k : ℕ) → JobOf (r .plan) k → (s : ℕ) → s < length (jobsRun h) → getD (jobsRun h) s 0 ≡ k → (jobNo (r .plan) k .release ≤ s) × (s < jobNo (r .plan) k .deadline)
     own k l s m e =
-        let number : k ≡ suc (k - 1) = (let a = l .0 in omega arith) in
-        reached-inside p (reached-a2 q) q (k - 1) (place-of (r .plan) k l) s m (e ∙ number)
+        let i = place-of (r .plan) k l in
+        reached-inside p (reached-a2 q) q (k - 1) (i .1) s m (e ∙ i .0)
 
 -- nor more slots than its hi
 pub never-above-hi : (p : Plan) (h : List Event) (r : Run) → Reached p h r → (k : ℕ) → JobOf p k → naming k (jobsRun h) ≤ jobNo p k .hi
@@ -143,5 +143,5 @@ hi-never-dropped p h r q = subst (λ (x : Plan). (k : ℕ) → JobOf x k → isH
   where
     own : (k : ℕ) → JobOf (r .plan) k → isHi (jobNo (r .plan) k) ≡ true → (border : ℕ) → entryNo r k .standing ≡ Dropped border → ⊥
     own k l high border e =
-        let t : EndTells h (jobNo (r .plan) k) (entryNo r k .given) (Dropped border) = subst (EndTells h (jobNo (r .plan) k) (entryNo r k .given)) e (reached-ends p (reached-a2 q) q (k - 1) (place-of (r .plan) k l)) in
+        let t : EndTells h (jobNo (r .plan) k) (entryNo r k .given) (Dropped border) = subst (EndTells h (jobNo (r .plan) k) (entryNo r k .given)) e (reached-ends p (reached-a2 q) q (k - 1) (place-of (r .plan) k l .1)) in
         never high (t .0)

@@ -33,10 +33,6 @@ number-place k = omega arith
 pub job-of-place : (p : Plan) (k : ℕ) → k < p .jobs → JobOf p (suc k)
 job-of-place p k l = (omega arith, l)
 
--- a job's place, from its number
-pub place-of : (p : Plan) (k : ℕ) → JobOf p k → k - 1 < p .jobs
-place-of p k l = let a = l .0 in let b = l .1 in omega arith
-
 -- ---- overruns and the return test
 
 pub phases-differ : H ≡ T → ⊥
