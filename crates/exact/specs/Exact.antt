@@ -4,6 +4,8 @@ use native.Mathlib.Omega.{arith}
 use mathlib.Core.Path.{_≡_, _∙_}
 use mathlib.Core.Logic.{⊎-elim}
 use mathlib.Core.Bool.{true, false}
+use mathlib.Core.List.{List}
+use lib.ListN.{length}
 use Rattle.words.specs.Cases.{by-test}
 use Rattle.answers.specs.declared.Answer.the-variants.{Accepted}
 use Rattle.answers.specs.Answer.{accepted}
@@ -15,8 +17,8 @@ use Rattle.acceptance_promise.specs.Promise.{Sized, windowsOf, InOrder, hiOf, a
 use Rattle.acceptance_promise.specs.AnswerLaws.{is-accepted, acceptance-accepted, analysis-answer, analysis-accepts}
 use Rattle.acceptance_promise.specs.TableLaws.{within-asked}
 use Rattle.acceptance_promise.specs.Laws.{passes-in-order, accepted-has, refused-has}
-use Rattle.exact.specs.Hopeless.{Needs, Hopeless, HopelessUnderSome, Demand3c, Demand3cRefused, Demand3cAccepted, TableRunServes}
-use Rattle.exact.specs.ExactRun.{run-serves}
+use Rattle.exact.specs.Hopeless.{Needs, tableRun, slotsBy, OverrunsAt, FirstOverrun, Serves, Hopeless, HopelessUnderSome, Demand3c, Demand3cRefused, Demand3cAccepted, TableRunServes}
+use Rattle.exact.specs.ExactRun.{slots-by-long, first-overrun, run-serves}
 use Rattle.exact.specs.ExactRefused.{worst, worst-hopeless}
 use Rattle.exact.specs.ExactAccepted.{order-found}
 
@@ -59,3 +61,13 @@ demand-3c p sized passes = (demand-3c-refused p sized passes, λ h accepts. not-
 -- without an overrun the table run itself gives every HI job its need in its window
 pub table-run-serves : TableRunServes
 table-run-serves p sized passes need none = run-serves p need (passes-in-order p sized (is-accepted (wellFormed p) passes)) none
+
+-- so an accepted plan can be served whatever the needs: by the table run where that does not overrun, else by the order that goes on from its first overrun
+pub always-served : (p : Plan) → Sized p → analysis p .answer ≡ Accepted → (need : ℕ → ℕ) → Needs p need → (order : List ℕ) × (length order ≡ p .slots) × Serves p need order
+always-served p sized accepts need needs = ⊎-elim overruns serves (first-overrun p need)
+  where
+    overruns : (t : ℕ) × FirstOverrun p need t → (order : List ℕ) × (length order ≡ p .slots) × Serves p need order
+    overruns (t, first) = let o = demand-3c-accepted p sized accepts need needs t first in (o .0, o .2 .0, o .3)
+
+    serves : ((t : ℕ) → OverrunsAt p need t → ⊥) → (order : List ℕ) × (length order ≡ p .slots) × Serves p need order
+    serves none = (slotsBy p (tableRun p need), slots-by-long p (tableRun p need), run-serves p need (accepted-has p sized (analysis-accepts p accepts) .0) none)

@@ -5,7 +5,7 @@ use native.Mathlib.Decide.{decLe, ℕ-discrete}
 use native.Mathlib.Nat.{not-suc-le-zero}
 use native.Mathlib.Omega.{arith}
 use mathlib.Core.Path.{_≡_, refl, sym, _∙_}
-use mathlib.Core.Logic.{_⊎_, inl, inr}
+use mathlib.Core.Logic.{_⊎_, inl, inr, ⊎-elim}
 use mathlib.Core.Bool.{Bool, true, false}
 use mathlib.Core.List.{List}
 use lib.ListN.{length, getD, length-map}
@@ -21,14 +21,14 @@ use Rattle.acceptance_promise.specs.Promise.{inWindow, jobAt, tab, InOrder}
 use Rattle.words.specs.Cases.{never}
 use Rattle.acceptance_promise.specs.InOrderLaws.{job-no, place-of}
 use Rattle.acceptance_promise.specs.CountLaws.{naming-window, tab-start, tab-last, tab-reach}
-use Rattle.exact.specs.Hopeless.{tableRun, slotsBy, OverrunsAt, Serves}
+use Rattle.exact.specs.Hopeless.{tableRun, slotsBy, OverrunsAt, FirstOverrun, Serves}
 
 -- the first number with a property, or none up to m has it
-abbrev pub First : (ℕ → Type 0) → ℕ → Type 0
+abbrev First : (ℕ → Type 0) → ℕ → Type 0
 First P m = ((t : ℕ) × P t × ((u : ℕ) → u < t → P u → ⊥)) ⊎ ((u : ℕ) → u ≤ m → P u → ⊥)
 
 -- it can be found where the property can be tested
-pub first-of : (P : ℕ → Type 0) → ((t : ℕ) → Dec (P t)) → (m : ℕ) → First P m
+first-of : (P : ℕ → Type 0) → ((t : ℕ) → Dec (P t)) → (m : ℕ) → First P m
 first-of P dec zero = go (dec 0)
   where
     go : Dec (P 0) → First P 0
@@ -146,7 +146,7 @@ module _ (p : Plan) (need : ℕ → ℕ) where
       }
 
   -- whether there is one at t
-  pub overrun? : (t : ℕ) → Dec (Overrun t)
+  overrun? : (t : ℕ) → Dec (Overrun t)
   overrun? zero = no (λ o. let b = o .border in omega arith)
   overrun? (suc s) = go (tableAt p s) refl
     where
@@ -170,6 +170,14 @@ module _ (p : Plan) (need : ℕ → ℕ) where
       go (suc k) e =
           tests k e (decLe (suc s) (p .slots)) (decLe (suc k) (p .jobs)) (isHi (jobAt p k)) refl
           (ℕ-discrete (tab p k (suc s)) (jobAt p k .lo)) (decLe (suc (jobAt p k .lo)) (need (suc k)))
+
+  -- there is a first overrun, or none at all
+  pub first-overrun : ((t : ℕ) × FirstOverrun p need t) ⊎ ((t : ℕ) → OverrunsAt p need t → ⊥)
+  first-overrun =
+      ⊎-elim
+      (λ w. inl (w .0, (overruns-at (w .0) (w .1), λ u l o. w .2 u l (overrun-of u o))))
+      (λ none. inr (λ t o. none t (let b = o .border in let i = o .inside in omega arith) (overrun-of t o)))
+      (first-of Overrun overrun? (p .slots))
 
   -- a HI job that needs more than lo overruns at its lo-th table slot
   pub overruns-by : InOrder p → (k t : ℕ) → k < p .jobs → isHi (jobAt p k) ≡ true → jobAt p k .lo < need (suc k) → t ≤ p .slots → jobAt p k .lo ≤ tab p k t
