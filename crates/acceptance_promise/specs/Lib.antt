@@ -1,12 +1,4 @@
-pub mod Promise
 pub mod MemberLaws
-pub mod InOrderLaws
-pub mod CountLaws
-pub mod TableLaws
-pub mod Chain
-pub mod ChainLaws
-pub mod Spares
-pub mod SpareLaws
 pub mod Check8Laws
 pub mod Check9Laws
 pub mod OneSlot

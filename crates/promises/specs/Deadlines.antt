@@ -9,9 +9,10 @@ use mathlib.Core.List.{List}
 use lib.ListN.{length, getD}
 use Rattle.plan.specs.declared.Plan.{Plan}
 use Rattle.plan.specs.Plan.{jobNo, isHi, naming}
-use Rattle.acceptance_promise.specs.Promise.{jobAt, InOrder, A2}
+use Rattle.well_formed.specs.InOrder.{jobAt, InOrder}
+use Rattle.spare_theory.specs.Promise.{A2}
 use Rattle.words.specs.Cases.{never}
-use Rattle.acceptance_promise.specs.InOrderLaws.{in-order}
+use Rattle.well_formed.specs.InOrderLaws.{in-order}
 use Rattle.acceptance_promise.specs.Laws.{accepted-has}
 use Rattle.executive.specs.declared.Run.{Run}
 use Rattle.executive.specs.declared.Report.{Report}

@@ -14,11 +14,14 @@ use Rattle.windows.specs.Windows.{dueBy, within}
 use Rattle.plan.specs.declared.Plan.{Plan}
 use Rattle.plan.specs.Plan.{slotsOf}
 use Rattle.intervals.specs.Spares.{row, current}
-use Rattle.acceptance.specs.Acceptance.{wellFormed, check8, alongTable, check9, acceptance}
-use Rattle.acceptance_promise.specs.Promise.{windowsOf, InOrder, hiOf, asked}
+use Rattle.well_formed.specs.WellFormed.{wellFormed}
+use Rattle.window_sums.specs.WindowSums.{check8}
+use Rattle.acceptance.specs.Acceptance.{alongTable, check9, acceptance}
+use Rattle.spare_theory.specs.Promise.{windowsOf, hiOf, asked}
+use Rattle.well_formed.specs.InOrder.{InOrder}
 use Rattle.answers.specs.RefusalLaws.{both-accept}
-use Rattle.acceptance_promise.specs.InOrderLaws.{in-order}
-use Rattle.acceptance_promise.specs.TableLaws.{within-asked}
+use Rattle.well_formed.specs.InOrderLaws.{in-order}
+use Rattle.spare_theory.specs.TableLaws.{within-asked}
 use Rattle.acceptance_promise.specs.Check9Laws.{accepted-promise, refused-promise}
 use Rattle.promises.specs.Demands.{Sized}
 use Rattle.promises.specs.General.{is-accepted}

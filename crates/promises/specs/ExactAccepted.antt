@@ -19,10 +19,11 @@ use Rattle.windows.specs.OrderLaws.{order-exists}
 use Rattle.plan.specs.declared.Plan.{Plan}
 use Rattle.plan.specs.Plan.{isHi, tableAt}
 use Rattle.plan.specs.CountLaws.{countUp-length, countUp-at}
-use Rattle.acceptance_promise.specs.Promise.{jobAt, windowsOf, tab, InOrder, hiOf, asked, A2}
-use Rattle.acceptance_promise.specs.InOrderLaws.{job-no}
-use Rattle.acceptance_promise.specs.CountLaws.{tab-last, tab-mono}
-use Rattle.acceptance_promise.specs.TableLaws.{hi-left, asked-high, feasible, asked-in-time, a1-of-a2, overrun-in-time}
+use Rattle.well_formed.specs.InOrder.{jobAt, tab, InOrder}
+use Rattle.spare_theory.specs.Promise.{windowsOf, hiOf, asked, A2}
+use Rattle.well_formed.specs.InOrderLaws.{job-no}
+use Rattle.spare_theory.specs.CountLaws.{tab-last, tab-mono}
+use Rattle.spare_theory.specs.TableLaws.{hi-left, asked-high, feasible, asked-in-time, a1-of-a2, overrun-in-time}
 use Rattle.promises.specs.Hopeless.{Needs, tableRun, FirstOverrun, Continues, JobsOnly, Serves}
 use Rattle.promises.specs.ExactRun.{place-of, in-window, run-names, run-gives, Overrun, overruns-at, overrun-of, overruns-by}
 

@@ -16,10 +16,10 @@ use Rattle.windows.specs.Orders.{given}
 use Rattle.windows.specs.SlotLaws.{given-last}
 use Rattle.plan.specs.declared.Plan.{Plan}
 use Rattle.plan.specs.Plan.{isHi, tableAt, tableSlots}
-use Rattle.acceptance_promise.specs.Promise.{jobAt, tab, InOrder}
+use Rattle.well_formed.specs.InOrder.{jobAt, tab, InOrder}
 use Rattle.words.specs.Cases.{never}
-use Rattle.acceptance_promise.specs.InOrderLaws.{job-no}
-use Rattle.acceptance_promise.specs.CountLaws.{naming-window, tab-start, tab-last, tab-reach}
+use Rattle.well_formed.specs.InOrderLaws.{job-no}
+use Rattle.spare_theory.specs.CountLaws.{naming-window, tab-start, tab-last, tab-reach}
 use Rattle.promises.specs.Demands.{JobOf, inWindow}
 use Rattle.promises.specs.Hopeless.{tableRun, OverrunsAt}
 

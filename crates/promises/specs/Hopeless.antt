@@ -10,7 +10,8 @@ use Rattle.words.specs.Words.{if_then_else_, _<?_}
 use Rattle.answers.specs.declared.Answer.the-variants.{Accepted}
 use Rattle.plan.specs.declared.Plan.{Plan}
 use Rattle.plan.specs.Plan.{jobNo, isHi, tableAt, tableSlots}
-use Rattle.acceptance.specs.Acceptance.{wellFormed, acceptance}
+use Rattle.well_formed.specs.WellFormed.{wellFormed}
+use Rattle.acceptance.specs.Acceptance.{acceptance}
 use Rattle.promises.specs.Demands.{Sized, JobOf, inWindow}
 
 -- needs: for each job the slots it will turn out to need, none above its larger budget

@@ -17,10 +17,12 @@ use Rattle.plan.specs.declared.Plan.{Plan}
 use Rattle.plan.specs.Limits.{maxJobs}
 use Rattle.plan.specs.Plan.{jobsOf, jobNo, blankJob}
 use Rattle.intervals.specs.Spares.{hiLeft, loLeft}
-use Rattle.acceptance.specs.Acceptance.{wellFormed, acceptance, check8, check9}
-use Rattle.acceptance_promise.specs.Promise.{InOrder}
+use Rattle.well_formed.specs.WellFormed.{wellFormed}
+use Rattle.acceptance.specs.Acceptance.{acceptance, check9}
+use Rattle.window_sums.specs.WindowSums.{check8}
+use Rattle.well_formed.specs.InOrder.{InOrder}
 use Rattle.answers.specs.RefusalLaws.{unless-holds, both-accept}
-use Rattle.acceptance_promise.specs.InOrderLaws.{in-order}
+use Rattle.well_formed.specs.InOrderLaws.{in-order}
 use Rattle.executive.specs.declared.Run.{Run}
 use Rattle.executive.specs.declared.Slot.{Slot}
 use Rattle.executive.specs.declared.Report.{Report}

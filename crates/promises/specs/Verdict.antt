@@ -6,7 +6,8 @@ use Prim.Native.Nat.{ℕ}
 use native.Mathlib.Omega.{arith}
 use Rattle.plan.specs.declared.Plan.{Plan}
 use Rattle.answers.specs.declared.Answer.the-variants.{Accepted, Overdrawn}
-use Rattle.acceptance.specs.Acceptance.{wellFormed, acceptance}
+use Rattle.well_formed.specs.WellFormed.{wellFormed}
+use Rattle.acceptance.specs.Acceptance.{acceptance}
 use Rattle.words.specs.Cases.{never}
 use Rattle.promises.specs.Compute.{everything}
 use Rattle.promises.specs.Sums.{A, B}
