@@ -6,7 +6,7 @@ use lib.IntN.{ℤ, pos, negsuc}
 use Rattle.words.specs.Words.{_≤?_, _<?_, _=?_, every}
 use Rattle.plan.specs.Plan.{jobsOf}
 use Rattle.answers.specs.Answer.{accepted}
-use Rattle.acceptance.specs.Acceptance.{wellFormed}
+use Rattle.well_formed.specs.WellFormed.{wellFormed}
 use Rattle.executive.specs.declared.Standing.{Standing}
 use Rattle.executive.specs.declared.Standing.the-variants.{Waiting, Finished, Cut, Dropped}
 use Rattle.executive.specs.declared.Run.{Run}

@@ -9,7 +9,7 @@ use borrow.Author.Tests.{leb-true, le-leb}
 use Rattle.words.specs.Words.{_≤?_, above0, below0}
 use Rattle.plan.specs.declared.Job.{Job}
 use Rattle.plan.specs.Plan.{jobNo, isHi, tableAt}
-use Rattle.acceptance_promise.specs.Promise.{JobOf, InOrder}
+use Rattle.well_formed.specs.InOrder.{InOrder, JobOf}
 use Rattle.words.specs.Cases.{both-hold, never}
 use Rattle.executive.specs.declared.Phase.{Phase}
 use Rattle.executive.specs.declared.Phase.the-variants.{T, H}

@@ -9,7 +9,7 @@ use lib.ListN.{length, getD, length-append, List·getD-append}
 use lib.Seq.{getD-at}
 use borrow.Author.Tests.{eqb-true}
 use Rattle.words.specs.Words.{_=?_}
-use Rattle.acceptance_promise.specs.Promise.{jobAt}
+use Rattle.well_formed.specs.InOrder.{jobAt}
 use Rattle.acceptance_promise.specs.OneSlot.{SlotTo}
 use Rattle.acceptance_promise.specs.OneSlotLaws.{table-met}
 use Rattle.executive.specs.declared.Entry.{Entry}

@@ -9,10 +9,11 @@ use mathlib.Core.List.{List}
 use lib.ListN.{length, getD}
 use Rattle.plan.specs.declared.Plan.{Plan}
 use Rattle.plan.specs.Plan.{jobNo, isHi, naming}
-use Rattle.acceptance_promise.specs.Promise.{JobOf, jobAt, InOrder, A2}
 use Rattle.words.specs.Cases.{never}
-use Rattle.acceptance_promise.specs.InOrderLaws.{place-of}
 use Rattle.acceptance_promise.specs.Laws.{passes-in-order, accepted-has}
+use Rattle.well_formed.specs.InOrder.{jobAt, InOrder, JobOf}
+use Rattle.spare_theory.specs.Promise.{A2}
+use Rattle.well_formed.specs.InOrderLaws.{place-of}
 use Rattle.executive.specs.declared.Run.{Run}
 use Rattle.executive.specs.declared.Report.{Report}
 use Rattle.executive.specs.Run.{entryNo, waiting}

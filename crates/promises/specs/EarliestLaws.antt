@@ -14,7 +14,6 @@ use Rattle.words.specs.Cases.{by-test, never}
 use Rattle.plan.specs.declared.Job.{Job}
 use Rattle.plan.specs.declared.Plan.{Plan}
 use Rattle.plan.specs.Plan.{jobsOf, jobNo, isHi, blankJob}
-use Rattle.acceptance_promise.specs.Promise.{JobOf}
 use Rattle.executive.specs.declared.Entry.{Entry}
 use Rattle.executive.specs.declared.Slot.{Slot}
 use Rattle.executive.specs.Run.{freshEntry}
@@ -22,6 +21,7 @@ use Rattle.words.specs.ZipLaws.{zipped-at}
 use Rattle.executive.specs.Choice.{earliest, goesBefore, better, earliestFrom}
 use Rattle.promises.specs.Chosen.{Leads, EarliestOf}
 use Rattle.promises.specs.General.{zip-member}
+use Rattle.well_formed.specs.InOrder.{JobOf}
 
 -- ---- the order
 

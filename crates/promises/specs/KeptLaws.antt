@@ -16,9 +16,10 @@ use Rattle.plan.specs.declared.Plan.{Plan}
 use Rattle.plan.specs.Limits.{maxJobs}
 use Rattle.plan.specs.Plan.{jobNo, isHi, blankJob, tableAt}
 use Rattle.intervals.specs.Spares.{row, current, hiLeft}
-use Rattle.acceptance_promise.specs.Promise.{JobOf, jobAt, windowsOf, InOrder, A2}
-use Rattle.acceptance_promise.specs.CountLaws.{tab-start}
-use Rattle.acceptance_promise.specs.SpareLaws.{above-exactly}
+use Rattle.well_formed.specs.InOrder.{jobAt, InOrder, JobOf}
+use Rattle.spare_theory.specs.Promise.{windowsOf, A2}
+use Rattle.spare_theory.specs.CountLaws.{tab-start}
+use Rattle.spare_theory.specs.SpareLaws.{above-exactly}
 use Rattle.acceptance_promise.specs.OneSlot.{hiRemaining, OnTable, SlotTo, TableFirst, NoHiReady}
 use Rattle.acceptance_promise.specs.OneSlotLaws.{high-met, stays-on-table, table-feasible, overrun-feasible, earliest-feasible, nobody-feasible, spare-feasible}
 use Rattle.executive.specs.declared.Entry.{Entry}

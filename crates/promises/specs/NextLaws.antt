@@ -13,7 +13,6 @@ use Rattle.plan.specs.declared.Job.{Job}
 use Rattle.words.specs.Words.{if_then_else_, _≤?_, _=?_}
 use Rattle.plan.specs.Plan.{jobsOf, jobNo, isHi, blankJob}
 use Rattle.words.specs.Cases.{both-hold}
-use Rattle.acceptance_promise.specs.Promise.{JobOf}
 use Rattle.executive.specs.declared.Standing.{Standing}
 use Rattle.executive.specs.declared.Standing.the-variants.{Waiting, Finished, Cut, Dropped}
 use Rattle.executive.specs.declared.Entry.{Entry}
@@ -29,6 +28,7 @@ use Rattle.executive.specs.Step.{standingAfter, ranOn, entriesAfter, reported, 
 use Rattle.promises.specs.Told.{jobRun, firstEnd, leftAlone}
 use Rattle.promises.specs.Runs.{reportedEntry, entryAfter}
 use Rattle.promises.specs.General.{joined}
+use Rattle.well_formed.specs.InOrder.{JobOf}
 
 -- ---- the whole record
 

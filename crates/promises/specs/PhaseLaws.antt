@@ -14,7 +14,7 @@ use Rattle.plan.specs.declared.Plan.{Plan}
 use Rattle.plan.specs.Limits.{maxJobs}
 use Rattle.plan.specs.CountLaws.{counts-length, counts-at}
 use Rattle.plan.specs.Plan.{jobsOf, jobNo, isHi, blankJob, countsAt}
-use Rattle.acceptance_promise.specs.Promise.{JobOf, jobAt, tab}
+use Rattle.well_formed.specs.InOrder.{jobAt, tab, JobOf}
 use Rattle.words.specs.Cases.{both-hold}
 use Rattle.acceptance_promise.specs.OneSlot.{OnTable}
 use Rattle.executive.specs.declared.Entry.{Entry}

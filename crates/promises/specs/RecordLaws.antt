@@ -17,11 +17,13 @@ use Rattle.plan.specs.declared.Plan.{Plan}
 use Rattle.plan.specs.Limits.{maxJobs}
 use Rattle.plan.specs.Plan.{jobsOf, jobNo, blankJob}
 use Rattle.intervals.specs.Spares.{hiLeft, loLeft}
-use Rattle.acceptance.specs.Acceptance.{wellFormed, acceptance, check8, check9}
-use Rattle.acceptance_promise.specs.Promise.{JobOf, Sized, InOrder}
+use Rattle.acceptance.specs.Acceptance.{acceptance, check9}
 use Rattle.answers.specs.RefusalLaws.{unless-holds, both-accept}
 use Rattle.acceptance_promise.specs.Laws.{passes-in-order}
 use Rattle.acceptance_promise.specs.AnswerLaws.{is-accepted}
+use Rattle.well_formed.specs.WellFormed.{wellFormed}
+use Rattle.window_sums.specs.WindowSums.{check8}
+use Rattle.well_formed.specs.InOrder.{InOrder, JobOf, Sized}
 use Rattle.executive.specs.declared.Run.{Run}
 use Rattle.executive.specs.declared.Slot.{Slot}
 use Rattle.executive.specs.declared.Report.{Report}

@@ -12,8 +12,9 @@ use Rattle.plan.specs.declared.Job.{Job}
 use Rattle.plan.specs.declared.Plan.{Plan}
 use Rattle.plan.specs.Limits.{maxJobs}
 use Rattle.plan.specs.Plan.{jobNo, isHi}
-use Rattle.acceptance.specs.Acceptance.{wellFormed}
-use Rattle.acceptance_promise.specs.Promise.{JobOf, Sized, jobAt, windowsOf, InOrder}
+use Rattle.well_formed.specs.WellFormed.{wellFormed}
+use Rattle.well_formed.specs.InOrder.{jobAt, InOrder, JobOf, Sized}
+use Rattle.spare_theory.specs.Promise.{windowsOf}
 use Rattle.acceptance_promise.specs.OneSlot.{hiRemaining, OnTable}
 use Rattle.executive.specs.declared.Entry.{Entry}
 use Rattle.executive.specs.declared.Phase.the-variants.{T}
