@@ -7,9 +7,10 @@ use Rattle.plan.specs.declared.Job.{Job}
 use Rattle.plan.specs.declared.Plan.{Plan}
 use Rattle.plan.specs.Plan.{jobNo, isHi}
 use Rattle.executive.specs.declared.Run.{Run}
-use Rattle.executive.specs.declared.Slot.{Slot}
-use Rattle.executive.specs.Run.{live, entryNo}
-use Rattle.executive.specs.Choice.{goesBefore}
+use Rattle.ready.specs.declared.Slot.{Slot}
+use Rattle.entries.specs.Entry.{live}
+use Rattle.executive.specs.Run.{entryNo}
+use Rattle.ready.specs.Ready.{goesBefore}
 use Rattle.promises.specs.Demands.{JobOf}
 
 -- job m leads job k: least d, then HI before LO, then the lower number

@@ -2,9 +2,9 @@
 use mathlib.Core.Path.{_≡_, refl, sym}
 use mathlib.Core.List.{List, [], _∷_}
 use lib.ListN.{length}
-use Rattle.executive.specs.declared.Standing.the-variants.{Finished, Cut}
-use Rattle.executive.specs.declared.Kind.{Kind}
-use Rattle.executive.specs.declared.Kind.the-variants.{End, More, None}
+use Rattle.entries.specs.declared.Standing.the-variants.{Finished, Cut}
+use Rattle.entries.specs.declared.Kind.{Kind}
+use Rattle.entries.specs.declared.Kind.the-variants.{End, More, None}
 use Rattle.executive.specs.declared.Report.{Report}
 use Rattle.executive.specs.declared.Run.{Run}
 use Rattle.executive.specs.Run.{start, entryNo}
