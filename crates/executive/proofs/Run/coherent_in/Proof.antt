@@ -8,9 +8,8 @@ use Rattle.well_formed.specs.InOrderLaws.{in-order}
 use Rattle.words.specs.ListLaws.{long}
 use Rattle.executive.specs.declared.Run.{Run}
 use Rattle.executive.specs.Run.{freshHi, freshLo}
-use Rattle.executive.specs.Coherent.{entriesHold, sameRow, coherent}
-use Rattle.executive.specs.Parts.{allHold}
-use Rattle.executive.specs.ReadyLaws.{Full}
+use Rattle.executive.specs.Coherent.{entriesHold, sameRow, coherent, allHold}
+use Rattle.executive.specs.MemberLaws.{Full}
 use Rattle.executive.specs.WorkLaws.{fresh-hi, fresh-lo}
 use borrow.Author.Needs.{needs}
 use Rattle.executive.proofs.Run.coherent_in.Statement.{statement}
@@ -31,7 +30,7 @@ full c = record { few = in-order _ (search (needs, long)) (search needs) (passes
 
 -- the entries' test is that of the run
 held : (c : tie.After-entries-hold) → c .entries-hold .result ≡ entriesHold (run (c .before .before .before .before .before .before .before))
-unfolding allHold entriesHold
+unfolding entriesHold
 held c = c .entries-hold .ensures
 
 holds : (c : tie.Else3) → entriesHold (run (passed c)) ≡ true
