@@ -9,7 +9,7 @@ use native.Mathlib.Omega.{arith}
 use lib.ListN.{length, getD, drop, drop-of-length-le}
 use lib.Seq.{drop-cons}
 use borrow.Author.Tests.{eq-eqb, ne-eqb, le-leb, lt-leb}
-use Rattle.lines.specs.Lines.{lineLength, begins, numberFrom}
+use Rattle.lines.specs.Lines.{lineLength, linesIn, begins, numberFrom}
 
 -- ---- the line's length
 
@@ -25,6 +25,20 @@ module _ (t : List ℕ) (i : ℕ) where
   pub length-out : length t ≤ i → lineLength (drop i t) ≡ 0
   unfolding lineLength
   length-out h = rw (drop-of-length-le t h)
+
+  -- ---- the lines that are complete
+
+  pub lines-hit : i < length t → getD t i 0 ≡ 10 → linesIn (drop i t) ≡ suc (linesIn (drop (i + 1) t))
+  unfolding linesIn
+  lines-hit h e = rw (add-one, drop-cons t i 0 h, eq-eqb _ _ e)
+
+  pub lines-miss : i < length t → (getD t i 0 ≡ 10 → ⊥) → linesIn (drop i t) ≡ linesIn (drop (i + 1) t)
+  unfolding linesIn
+  lines-miss h e = rw (add-one, drop-cons t i 0 h, ne-eqb _ _ e)
+
+  pub lines-out : length t ≤ i → linesIn (drop i t) ≡ 0
+  unfolding linesIn
+  lines-out h = rw (drop-of-length-le t h)
 
 -- ---- the key
 
