@@ -17,7 +17,7 @@ use Rattle.plan.specs.Limits.{maxSlots, maxJobs, oneTo}
 use Rattle.plan.specs.Plan.{jobsOf, slotsOf, blankJob, jobNo, isHi, tableAt, naming}
 use Rattle.plan.specs.Rules.{check2, check3, windowHolds, budgetHolds, windowsHold}
 use Rattle.acceptance.specs.Acceptance.{check4, check5, check6, check7, slotHolds, wellFormed}
-use Rattle.acceptance_promise.specs.Promise.{jobAt, InOrder}
+use Rattle.acceptance_promise.specs.Promise.{JobOf, jobAt, InOrder}
 use Rattle.acceptance_promise.specs.MemberLaws.{member-at}
 use Rattle.words.specs.Cases.{never, both-hold}
 use Rattle.answers.specs.RefusalLaws.{either-true, unless-holds, both-accept, each-accepted}
@@ -65,6 +65,10 @@ budget-says N j h = (
 -- the job of number suc k is the one at place k
 pub job-no : (p : Plan) (k : ℕ) → jobNo p (suc k) ≡ jobAt p k
 job-no p k = let e : suc k - 1 ≡ k = omega arith in rw e
+
+-- the number of a job of the plan is one more than its place
+pub place-of : (p : Plan) (k : ℕ) → JobOf p k → (k ≡ suc (k - 1)) × (k - 1 < p .jobs)
+place-of p k h = let a = h .0 in let b = h .1 in (omega arith, omega arith)
 
 -- what a table slot that holds says of the job it names
 slot-says : (p : Plan) (s k : ℕ) → slotHolds p s (suc k) ≡ true → (k < p .jobs) × (jobAt p k .release ≤ s) × (s < jobAt p k .deadline)

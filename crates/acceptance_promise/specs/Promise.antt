@@ -1,16 +1,33 @@
--- The acceptance promise, as statements: a plan in order (checks 2 to 7), A1 (check 8) and A2 (check 9). Definitions only.
+-- The acceptance promise, as statements: a plan in order (checks 2 to 7), A1 (check 8) and A2 (check 9); and the words for plans and jobs that every theorem above uses. Definitions only.
 -- Jobs are counted here by their place, from 0: the job at place k has the number suc k, which is its name in the table.
 use Prim.Native.Nat.{ℕ, suc, _-_, _≤_, _<_}
 use mathlib.Core.Path.{_≡_}
 use mathlib.Core.Bool.{true, false}
-use lib.ListN.{length, getD}
+use mathlib.Core.List.{List}
+use lib.ListN.{length, take, drop, getD}
 use Rattle.words.specs.Words.{_<?_}
 use Rattle.windows.specs.Windows.{Windows, within, InTime}
 use Rattle.plan.specs.declared.Job.{Job}
 use Rattle.plan.specs.declared.Plan.{Plan}
 use Rattle.plan.specs.Limits.{maxSlots, maxJobs}
-use Rattle.plan.specs.Plan.{blankJob, isHi, tableAt, tableSlots}
+use Rattle.plan.specs.Plan.{blankJob, jobNo, isHi, naming, tableAt, tableSlots}
 use Rattle.intervals.specs.Spares.{hiLeft}
+
+-- ---- plans and their jobs
+
+-- a plan record as the code has it: its arrays have their lengths
+abbrev pub Sized : Plan → Type 0
+Sized p = (length (p .job) ≡ maxJobs) × (length (p .table) ≡ maxSlots)
+
+-- k is the number of a job of the plan
+abbrev pub JobOf : Plan → ℕ → Type 0
+JobOf p k = (1 ≤ k) × (k ≤ p .jobs)
+
+-- the slots that job k has inside its window, where `who` says slot by slot who has it, 0 for nobody
+abbrev pub inWindow : Plan → ℕ → List ℕ → ℕ
+inWindow p k who = naming k (drop (jobNo p k .release) (take (jobNo p k .deadline) who))
+
+-- ---- jobs by their place
 
 -- the job at place k
 abbrev pub jobAt : Plan → ℕ → Job
@@ -23,6 +40,8 @@ windowsOf p = record { count = p .jobs; release = λ k. jobAt p k .release; dead
 -- the table slots before border t of the job at place k
 abbrev pub tab : Plan → ℕ → ℕ → ℕ
 tab p k t = tableSlots p t (suc k)
+
+-- ---- the promise
 
 -- what checks 2 to 7 say of each job and each slot of a record whose arrays have their lengths
 pub record InOrder (p : Plan) : Type 0 where

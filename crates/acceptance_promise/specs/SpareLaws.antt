@@ -19,12 +19,13 @@ use Rattle.plan.specs.declared.Plan.{Plan}
 use Rattle.plan.specs.Plan.{jobsOf, blankJob}
 use Rattle.intervals.specs.declared.Interval.{Interval}
 use Rattle.intervals.specs.Intervals.{maxIntervals, intervals, past}
+use Rattle.intervals.specs.Covers.{intervalAt}
 use Rattle.intervals.specs.Spares.{remaining, atMost0, nextSpare, spare, spares, row, current}
 use Rattle.acceptance_promise.specs.Promise.{jobAt, windowsOf, InOrder}
 use Rattle.acceptance_promise.specs.InOrderLaws.{among-jobs, jobs-length}
 use Rattle.acceptance_promise.specs.Chain.{Quiet, Chain, done, link}
 use Rattle.acceptance_promise.specs.ChainLaws.{intervals-chain}
-use Rattle.acceptance_promise.specs.Spares.{due, Least}
+use Rattle.acceptance_promise.specs.Spares.{due, currentEnd, Least}
 
 -- ---- signs of differences
 -- not below 0
@@ -54,7 +55,7 @@ above-is {z = negsuc n} h l = absurd (omega arith)
 
 -- ---- rows
 -- beyond its list an array of fillers has the filler too
-getD-filled : {A : Type 0} (z : A) (xs : List A) (n i : ℕ) → getD (xs ++ replicate n z) i z ≡ getD xs i z
+pub getD-filled : {A : Type 0} (z : A) (xs : List A) (n i : ℕ) → getD (xs ++ replicate n z) i z ≡ getD xs i z
 getD-filled z [] zero i = refl
 getD-filled z [] (suc n) zero = refl
 getD-filled z [] (suc n) (suc i) = getD-filled z [] n i
@@ -205,21 +206,26 @@ module _ (p : Plan) (ok : InOrder p) (ws : List ℕ) where
     first-least x (y ∷ ys) a e l quiet (link start room inside rest) =
         least-more x y ys a e l quiet room inside (nextSpare (spares t (jobsOf p) ws (y ∷ ys))) (first-least y ys (x .end) (omega arith) room inside rest)
 
+    -- of a list of intervals: the end of the current one is after t, no deadline lies before it, and the current spare is the least from there on
+    abbrev FromItsEnd : List Interval → Type 0
+    FromItsEnd xs =
+        let b = intervalAt xs (past t xs) .end in
+        (t < b) × Quiet p t b × Least p ws t b xs (getD (spares t (jobsOf p) ws xs) (past t xs) (pos 0))
+
     -- the current spare of intervals end to end from a to N
     current-least : (a : ℕ) (xs : List Interval) → Chain p a xs → a ≤ t → t < p .slots
-        → (b : ℕ) × (t < b) × Quiet p t b × Least p ws t b xs (getD (spares t (jobsOf p) ws xs) (past t xs) (pos 0))
+        → FromItsEnd xs
     unfolding spares past
     current-least a [] (done over) h l = absurd (omega arith)
     current-least a (x ∷ xs) (link start room quiet rest) h l = go (decLe (x .end) t) (current-least (x .end) xs rest)
       where
-        go : Dec (x .end ≤ t) → (x .end ≤ t → t < p .slots → (b : ℕ) × (t < b) × Quiet p t b × Least p ws t b xs (getD (spares t (jobsOf p) ws xs) (past t xs) (pos 0)))
-            → (b : ℕ) × (t < b) × Quiet p t b × Least p ws t b (x ∷ xs) (getD (spares t (jobsOf p) ws (x ∷ xs)) (past t (x ∷ xs)) (pos 0))
+        go : Dec (x .end ≤ t) → (x .end ≤ t → t < p .slots → FromItsEnd xs) → FromItsEnd (x ∷ xs)
         go (yes q) r =
             let c = r q l in
-            rw (le-leb (x .end) t q) (c .0, c .1, c .2, record { reached = c .3 .reached; is = c .3 .is; least = c .3 .least; from = c .3 .from; anEnd = List·Memᴰ·tail (c .3 .anEnd) })
+            rw (le-leb (x .end) t q) (c .0, c .1, record { reached = c .2 .reached; is = c .2 .is; least = c .2 .least; from = c .2 .from; anEnd = List·Memᴰ·tail (c .2 .anEnd) })
         go (no q) r =
             rw (lt-leb (x .end) t (omega arith))
-            (x .end, omega arith, λ k m d. quiet k m (omega arith), first-least x xs t (omega arith) (omega arith) (λ k m d. quiet k m (omega arith)) rest)
+            (omega arith, λ k m d. quiet k m (omega arith), first-least x xs t (omega arith) (omega arith) (λ k m d. quiet k m (omega arith)) rest)
 
     module _ (before : t < p .slots) where
       -- the spare of the interval which holds slot t, in the plan's row
@@ -228,7 +234,7 @@ module _ (p : Plan) (ok : InOrder p) (ws : List ℕ) where
       current-row = getD-filled (pos 0) (spares t (jobsOf p) ws (intervals p)) (maxIntervals - length (spares t (jobsOf p) ws (intervals p))) (past t (intervals p))
 
       -- S1: the current spare is the least, over the borders from the end of the current interval on, of the room up to there less the work due there
-      pub spare-least : (b : ℕ) × (t < b) × Quiet p t b × Least p ws t b (intervals p) (current p t (row p t ws))
+      pub spare-least : (t < currentEnd p t) × Quiet p t (currentEnd p t) × Least p ws t (currentEnd p t) (intervals p) (current p t (row p t ws))
       spare-least = rw current-row (current-least 0 (intervals p) (intervals-chain p ok) (omega arith) before)
 
       -- S2, where no work is due at or before t
@@ -247,33 +253,33 @@ module _ (p : Plan) (ok : InOrder p) (ws : List ℕ) where
             go (no q) = omega (arith, due-quiet t b c quiet (omega arith) l, due-past)
 
         -- what the current spare says, k slots from t on
-        module _ (s : (b : ℕ) × (t < b) × Quiet p t b × Least p ws t b (intervals p) (current p t (row p t ws))) where
+        module _ (b : ℕ) (s : (t < b) × Quiet p t b × Least p ws t b (intervals p) (current p t (row p t ws))) where
           -- room for the work due by where the least is reached is room for all
-          room-all : (k : ℕ) → k ≤ 1 → t + k + due p ws (s .3 .reached) ≤ s .3 .reached → InTime (windowsOf p) (t + k) (λ k. getD ws k 0)
-          room-all k small h e = go (decLe (s .0) e)
+          room-all : (k : ℕ) → k ≤ 1 → t + k + due p ws (s .2 .reached) ≤ s .2 .reached → InTime (windowsOf p) (t + k) (λ k. getD ws k 0)
+          room-all k small h e = go (decLe b e)
             where
-              go : Dec (s .0 ≤ e) → due p ws e ≤ e - (t + k)
-              go (yes q) = omega (arith, s .3 .least e q)
-              go (no q) = omega (arith, due-none (s .0) e (s .2) (omega arith))
+              go : Dec (b ≤ e) → due p ws e ≤ e - (t + k)
+              go (yes q) = omega (arith, s .2 .least e q)
+              go (no q) = omega (arith, due-none b e (s .1) (omega arith))
 
           -- and conversely
-          all-room : (k : ℕ) → k ≤ 1 → InTime (windowsOf p) (t + k) (λ k. getD ws k 0) → t + k + due p ws (s .3 .reached) ≤ s .3 .reached
-          all-room k small h = omega (arith, h (s .3 .reached), s .3 .from, s .1)
+          all-room : (k : ℕ) → k ≤ 1 → InTime (windowsOf p) (t + k) (λ k. getD ws k 0) → t + k + due p ws (s .2 .reached) ≤ s .2 .reached
+          all-room k small h = omega (arith, h (s .2 .reached), s .2 .from, s .0)
 
         -- the current spare is not below 0 exactly when for all e the work due by e is e - t at most
         pub not-below-exactly : (below0 (current p t (row p t ws)) ≡ false) ↔ InTime (windowsOf p) t (λ k. getD ws k 0)
         not-below-exactly = (
-          λ h e. (let i = is-not-below (spare-least .3 .is) h in omega (arith, room-all spare-least 0 (omega arith) (omega (arith, due-past)) e)),
-          λ h. not-below-is (spare-least .3 .is) (omega (arith, all-room spare-least 0 (omega arith) (λ e. omega (arith, h e)), due-past)),
+          λ h e. (let i = is-not-below (spare-least .2 .is) h in omega (arith, room-all (currentEnd p t) spare-least 0 (omega arith) (omega (arith, due-past)) e)),
+          λ h. not-below-is (spare-least .2 .is) (omega (arith, all-room (currentEnd p t) spare-least 0 (omega arith) (λ e. omega (arith, h e)), due-past)),
         )
 
         -- it is above 0 exactly when for all e the work due by e is e - (t + 1) at most
         pub above-exactly : (above0 (current p t (row p t ws)) ≡ true) ↔ InTime (windowsOf p) (t + 1) (λ k. getD ws k 0)
         above-exactly = (
-          λ h. (let i = is-above (spare-least .3 .is) h in room-all spare-least 1 (omega arith) (omega (arith, due-past))),
-          λ h. above-is (spare-least .3 .is) (omega (arith, all-room spare-least 1 (omega arith) h, due-past)),
+          λ h. (let i = is-above (spare-least .2 .is) h in room-all (currentEnd p t) spare-least 1 (omega arith) (omega (arith, due-past))),
+          λ h. above-is (spare-least .2 .is) (omega (arith, all-room (currentEnd p t) spare-least 1 (omega arith) h, due-past)),
         )
 
         -- a current spare below 0 shows a border e by which more than e - t is due
         pub below-shows : below0 (current p t (row p t ws)) ≡ true → (e : ℕ) × (e - t < due p ws e)
-        below-shows h = let i = is-below (spare-least .3 .is) h in (spare-least .3 .reached, omega (arith, due-past, spare-least .3 .from, spare-least .1))
+        below-shows h = let i = is-below (spare-least .2 .is) h in (spare-least .2 .reached, omega (arith, due-past, spare-least .2 .from, spare-least .0))

@@ -7,12 +7,17 @@ use Rattle.words.specs.Difference.{Is}
 use Rattle.windows.specs.Windows.{dueBy}
 use Rattle.plan.specs.declared.Plan.{Plan}
 use Rattle.intervals.specs.declared.Interval.{Interval}
-use Rattle.intervals.specs.Covers.{ends}
+use Rattle.intervals.specs.Intervals.{intervals, past}
+use Rattle.intervals.specs.Covers.{intervalAt, ends}
 use Rattle.acceptance_promise.specs.Promise.{windowsOf}
 
 -- the work due by e, of a list of work
 abbrev pub due : Plan → List ℕ → ℕ → ℕ
 due p ws e = dueBy (windowsOf p) (λ k. getD ws k 0) e
+
+-- the end of the current interval, which holds slot t: the next after those that are past
+abbrev pub currentEnd : Plan → ℕ → ℕ
+currentEnd p t = intervalAt (intervals p) (past t (intervals p)) .end
 
 -- z is the least, over the borders e from b on, of the room from a to e less the work due after a and by e; it is reached at an end of an interval of xs
 pub record Least (p : Plan) (ws : List ℕ) (a b : ℕ) (xs : List Interval) (z : ℤ) : Type 0 where

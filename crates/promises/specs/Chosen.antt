@@ -6,11 +6,11 @@ use mathlib.Core.Bool.{true, false}
 use Rattle.plan.specs.declared.Job.{Job}
 use Rattle.plan.specs.declared.Plan.{Plan}
 use Rattle.plan.specs.Plan.{jobNo, isHi}
+use Rattle.acceptance_promise.specs.Promise.{JobOf}
 use Rattle.executive.specs.declared.Run.{Run}
 use Rattle.executive.specs.declared.Slot.{Slot}
 use Rattle.executive.specs.Run.{live, entryNo}
 use Rattle.executive.specs.Choice.{goesBefore}
-use Rattle.promises.specs.Demands.{JobOf}
 
 -- job m leads job k: least d, then HI before LO, then the lower number
 abbrev pub Leads : Plan → ℕ → ℕ → Type 0

@@ -9,7 +9,7 @@ use borrow.Author.Tests.{leb-true, le-leb}
 use Rattle.words.specs.Words.{_≤?_, above0, below0}
 use Rattle.plan.specs.declared.Job.{Job}
 use Rattle.plan.specs.Plan.{jobNo, isHi, tableAt}
-use Rattle.acceptance_promise.specs.Promise.{InOrder}
+use Rattle.acceptance_promise.specs.Promise.{JobOf, InOrder}
 use Rattle.words.specs.Cases.{both-hold, never}
 use Rattle.executive.specs.declared.Phase.{Phase}
 use Rattle.executive.specs.declared.Phase.the-variants.{T, H}
@@ -17,7 +17,6 @@ use Rattle.executive.specs.declared.Run.{Run}
 use Rattle.executive.specs.declared.Slot.{Slot}
 use Rattle.executive.specs.Run.{live, entryNo, currentHi, currentLo}
 use Rattle.executive.specs.Choice.{chosen, earliest, ready, readyHi, isReady, chosenT, chosenH}
-use Rattle.promises.specs.Demands.{JobOf}
 use Rattle.promises.specs.Chosen.{Ready, EarliestReady, EarliestReadyHi}
 use Rattle.promises.specs.General.{joined}
 use Rattle.promises.specs.EarliestLaws.{earliest-of}

@@ -20,7 +20,8 @@ use Rattle.executive.specs.Run.{live}
 use Rattle.executive.specs.Choice.{chosen}
 use Rattle.executive.specs.Step.{nextRun}
 use Rattle.executive.specs.declared.Kind.the-variants.{None}
-use Rattle.promises.specs.Demands.{jobRun, Event, event, jobsRun}
+use Rattle.promises.specs.Told.{jobRun}
+use Rattle.promises.specs.Demands.{Event, event, jobsRun}
 use Rattle.promises.specs.Runs.{reportedEntry, Taken, Recorded, entryAt, givenAt, liveAt, Kept}
 use Rattle.promises.specs.Ends.{EndTells, DropTells}
 use Rattle.promises.specs.NextLaws.{live-fewer, reported-given, reported-alive, reported-holds}

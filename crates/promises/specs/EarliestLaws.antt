@@ -14,12 +14,12 @@ use Rattle.words.specs.Cases.{by-test, never}
 use Rattle.plan.specs.declared.Job.{Job}
 use Rattle.plan.specs.declared.Plan.{Plan}
 use Rattle.plan.specs.Plan.{jobsOf, jobNo, isHi, blankJob}
+use Rattle.acceptance_promise.specs.Promise.{JobOf}
 use Rattle.executive.specs.declared.Entry.{Entry}
 use Rattle.executive.specs.declared.Slot.{Slot}
 use Rattle.executive.specs.Run.{freshEntry}
 use Rattle.words.specs.ZipLaws.{zipped-at}
 use Rattle.executive.specs.Choice.{earliest, goesBefore, better, earliestFrom}
-use Rattle.promises.specs.Demands.{JobOf}
 use Rattle.promises.specs.Chosen.{Leads, EarliestOf}
 use Rattle.promises.specs.General.{zip-member}
 

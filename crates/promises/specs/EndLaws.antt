@@ -19,9 +19,10 @@ use Rattle.executive.specs.declared.Standing.{Standing}
 use Rattle.executive.specs.declared.Standing.the-variants.{Waiting, Finished, Cut, Dropped}
 use Rattle.executive.specs.declared.Kind.{Kind}
 use Rattle.executive.specs.declared.Kind.the-variants.{End, More, None}
-use Rattle.promises.specs.Demands.{jobRun, Event, event, jobsRun, phaseAt, firstEnd}
+use Rattle.promises.specs.Told.{jobRun, firstEnd, leftAlone}
+use Rattle.promises.specs.Demands.{Event, event, jobsRun, phaseAt}
 use Rattle.promises.specs.Ends.{EndTells, DropTells}
-use Rattle.promises.specs.Runs.{entryAfter, reportedEntry, leftAlone}
+use Rattle.promises.specs.Runs.{entryAfter, reportedEntry}
 use Rattle.promises.specs.NextLaws.{expired-given, expired-stands}
 
 -- ---- histories with one event more

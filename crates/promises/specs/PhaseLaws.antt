@@ -14,7 +14,7 @@ use Rattle.plan.specs.declared.Plan.{Plan}
 use Rattle.plan.specs.Limits.{maxJobs}
 use Rattle.plan.specs.CountLaws.{counts-length, counts-at}
 use Rattle.plan.specs.Plan.{jobsOf, jobNo, isHi, blankJob, countsAt}
-use Rattle.acceptance_promise.specs.Promise.{jobAt, tab}
+use Rattle.acceptance_promise.specs.Promise.{JobOf, jobAt, tab}
 use Rattle.words.specs.Cases.{both-hold}
 use Rattle.acceptance_promise.specs.OneSlot.{OnTable}
 use Rattle.executive.specs.declared.Entry.{Entry}
@@ -23,7 +23,6 @@ use Rattle.executive.specs.declared.Run.{Run}
 use Rattle.executive.specs.declared.Slot.{Slot}
 use Rattle.executive.specs.Run.{live, entryNo, freshEntry}
 use Rattle.executive.specs.Step.{pastLo, overrun, settled, everySettled, canReturn}
-use Rattle.promises.specs.Demands.{JobOf}
 use Rattle.promises.specs.Runs.{entryAt, givenAt, liveAt}
 
 -- ---- places and numbers
@@ -33,10 +32,6 @@ number-place k = omega arith
 
 pub job-of-place : (p : Plan) (k : ℕ) → k < p .jobs → JobOf p (suc k)
 job-of-place p k l = (omega arith, l)
-
--- a job's place, from its number
-pub place-of : (p : Plan) (k : ℕ) → JobOf p k → k - 1 < p .jobs
-place-of p k l = let a = l .0 in let b = l .1 in omega arith
 
 -- ---- overruns and the return test
 

@@ -18,11 +18,11 @@ use Rattle.plan.specs.declared.Plan.{Plan}
 use Rattle.plan.specs.Plan.{isHi, tableAt}
 use Rattle.acceptance_promise.specs.Promise.{jobAt, windowsOf, tab, InOrder, asked}
 use Rattle.words.specs.Cases.{never}
-use Rattle.acceptance_promise.specs.InOrderLaws.{job-no}
+use Rattle.acceptance_promise.specs.InOrderLaws.{job-no, place-of}
 use Rattle.acceptance_promise.specs.CountLaws.{tab-start, tab-split, tab-mono}
 use Rattle.acceptance_promise.specs.TableLaws.{asked-high, asked-case, tab-due, coming-open}
-use Rattle.promises.specs.Hopeless.{Needs, Continues, Serves, Hopeless}
-use Rattle.promises.specs.ExactRun.{First, first-of, place-of, in-window, run-names, Overrun, overruns-at, overrun-of, overrun?, overruns-by}
+use Rattle.exact.specs.Hopeless.{Needs, OverrunsAt, FirstOverrun, Continues, Serves, Hopeless}
+use Rattle.exact.specs.ExactRun.{in-window, run-names, Overrun, overruns-at, overrun-of, first-overrun, overruns-by}
 
 -- the needs that a refusal at (t, e) shows
 unfoldable pub worst : Plan → ℕ → ℕ → ℕ → ℕ
@@ -71,7 +71,8 @@ module _ (p : Plan) (t e : ℕ) where
     worst-needs : Needs p (worst p t e)
     worst-needs n h =
         let i = place-of p n h in
-        rw (i .1, job-no p (i .0)) (⊎-elim (λ w. omega (arith, w .needs)) (λ w. omega (arith, w .0, ok .budget (i .0) (i .2))) (worst-case (i .0)))
+        let k = n - 1 in
+        rw (i .0, job-no p k) (⊎-elim (λ w. omega (arith, w .needs)) (λ w. omega (arith, w .0, ok .budget k (i .1))) (worst-case k))
 
     -- no overrun up to t
     worst-early : (u : ℕ) → u ≤ t → Overrun p (worst p t e) u → ⊥
@@ -82,13 +83,13 @@ module _ (p : Plan) (t e : ℕ) where
         (worst-case (o .who))
 
     -- with no overrun at all the table itself gives what is asked, between t and e
-    table-gives : ((u : ℕ) → u ≤ p .slots → Overrun p (worst p t e) u → ⊥) → (k : ℕ) → k < p .jobs → asks k ≤ given (tableAt p) (suc k) t e
+    table-gives : ((u : ℕ) → OverrunsAt p (worst p t e) u → ⊥) → (k : ℕ) → k < p .jobs → asks k ≤ given (tableAt p) (suc k) t e
     table-gives none k l = ⊎-elim (λ w. go w (decLe (jobAt p k .hi) (jobAt p k .lo))) (λ w. omega (arith, w .1)) (worst-case k)
       where
         go : Pressed k → Dec (jobAt p k .hi ≤ jobAt p k .lo) → asks k ≤ given (tableAt p) (suc k) t e
         go w (no q) = absurd
             (let o = overruns-by p (worst p t e) ok k (p .slots) l (w .high) (omega (arith, w .needs)) (omega arith) (omega (arith, ok .full k l)) in
-            none (o .0) (o .1) (o .2))
+            none (o .0) (overruns-at p (worst p t e) (o .0) (o .2)))
         go w (yes q) =
             let c = coming-open p ok k t l (w .coming) in
             let s = tab-split p k t (jobAt p k .deadline) (omega arith) in
@@ -128,16 +129,11 @@ module _ (p : Plan) (t e : ℕ) where
 
     -- where more than e - t may be asked at t by the jobs due by e, these needs are hopeless
     pub worst-hopeless : e - t < dueBy (windowsOf p) (asked p t) e → Needs p (worst p t e) × Hopeless p (worst p t e)
-    worst-hopeless fails = (worst-needs, find (first-of (Overrun p (worst p t e)) (overrun? p (worst p t e)) (p .slots)))
+    worst-hopeless fails = (worst-needs, ⊎-elim hopeless (λ none. absurd (too-many fails (tableAt p) (table-gives none))) (first-overrun p (worst p t e)))
       where
-        find : First (Overrun p (worst p t e)) (p .slots) → Hopeless p (worst p t e)
-        find (inr none) = absurd (too-many fails (tableAt p) (table-gives none))
-        find (inl w) = (
-          w .0,
-          (overruns-at p (worst p t e) (w .0) (w .1), λ v l o. w .2 v l (overrun-of p (worst p t e) v o)),
-          λ order continues serves. no-order order continues serves (decLe (w .0) t),
-        )
-          where
-            no-order : (order : List ℕ) → Continues p (worst p t e) (w .0) order → Serves p (worst p t e) order → Dec (w .0 ≤ t) → ⊥
-            no-order order continues serves (yes q) = worst-early (w .0) q (w .1)
-            no-order order continues serves (no q) = too-many fails (λ s. getD order s 0) (order-gives (w .0) order (omega arith) continues serves)
+        no-order : (u : ℕ) → FirstOverrun p (worst p t e) u → (order : List ℕ) → Continues p (worst p t e) u order → Serves p (worst p t e) order → Dec (u ≤ t) → ⊥
+        no-order u first order continues serves (yes q) = worst-early u q (overrun-of p (worst p t e) u (first .0))
+        no-order u first order continues serves (no q) = too-many fails (λ s. getD order s 0) (order-gives u order (omega arith) continues serves)
+
+        hopeless : (u : ℕ) × FirstOverrun p (worst p t e) u → Hopeless p (worst p t e)
+        hopeless (u, first) = (u, first, λ order continues serves. no-order u first order continues serves (decLe u t))

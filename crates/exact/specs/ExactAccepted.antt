@@ -7,10 +7,10 @@ use native.Mathlib.Omega.{arith}
 use mathlib.Core.Path.{_≡_, refl, sym, _∙_}
 use mathlib.Core.Logic.{_⊎_, inl, inr, ⊎-elim}
 use mathlib.Core.Bool.{Bool, true, false}
-use mathlib.Core.List.{List, map}
-use lib.ListN.{length, getD, length-map, List·getD-eq-default}
+use mathlib.Core.List.{List}
+use lib.ListN.{getD, List·getD-eq-default}
 use borrow.Author.Tests.{lt-ltb, le-ltb}
-use Rattle.words.specs.Words.{if_then_else_, _<?_, countUp}
+use Rattle.words.specs.Words.{if_then_else_, _<?_}
 use Rattle.windows.specs.SumLaws.{same-yes, same-no}
 use Rattle.windows.specs.Windows.{InTime, NoMore}
 use Rattle.windows.specs.Orders.{given, Order}
@@ -18,13 +18,12 @@ use Rattle.windows.specs.SlotLaws.{given-joined, given-agree}
 use Rattle.windows.specs.OrderLaws.{order-exists}
 use Rattle.plan.specs.declared.Plan.{Plan}
 use Rattle.plan.specs.Plan.{isHi, tableAt}
-use Rattle.plan.specs.CountLaws.{countUp-length, countUp-at}
 use Rattle.acceptance_promise.specs.Promise.{jobAt, windowsOf, tab, InOrder, hiOf, asked, A2}
 use Rattle.acceptance_promise.specs.InOrderLaws.{job-no}
 use Rattle.acceptance_promise.specs.CountLaws.{tab-last, tab-mono}
 use Rattle.acceptance_promise.specs.TableLaws.{hi-left, asked-high, feasible, asked-in-time, a1-of-a2, overrun-in-time}
-use Rattle.promises.specs.Hopeless.{Needs, tableRun, FirstOverrun, Continues, JobsOnly, Serves}
-use Rattle.promises.specs.ExactRun.{place-of, in-window, run-names, run-gives, Overrun, overruns-at, overrun-of, overruns-by}
+use Rattle.exact.specs.Hopeless.{Needs, tableRun, slotsBy, FirstOverrun, Continues, JobsOnly, Serves}
+use Rattle.exact.specs.ExactRun.{slots-by-long, slots-by-at, slots-by-serves, run-names, run-gives, Overrun, overruns-at, overrun-of, overruns-by}
 
 module _ (p : Plan) (need : ℕ → ℕ) where
   -- what a HI job still needs at border t of the table run
@@ -142,39 +141,21 @@ module _ (p : Plan) (need : ℕ → ℕ) where
             go (yes l) = rw (whole-before s l) (table-named (tableRun p need s) l refl)
             go (no l) = rw (whole-from s (omega arith)) (laid .named s)
 
-        -- as a list of N slots
-        order : List ℕ
-        order = map whole (countUp 0 (p .slots))
-
-        -- it has N slots
-        long : length order ≡ p .slots
-        unfolding order
-        long = length-map (countUp 0 (p .slots)) whole ∙ countUp-length 0 (p .slots)
-
-        -- slot s of it
-        order-at : (s : ℕ) → s < p .slots → getD order s 0 ≡ whole s
-        unfolding order
-        order-at s l = let e : 0 + s ≡ s = omega arith in rw e at (countUp-at whole 0 0 (p .slots) s l)
-
-        -- it continues the table run, and serves
-        order-serves : (JobsOnly p order) × Continues p need t order × Serves p need order
-        order-serves = (λ s. named s (decLt s (p .slots)), (long, λ s l. order-at s (omega (arith, inside)) ∙ whole-before s l), serves)
+        -- as a list of N slots it continues the table run, and serves
+        order-serves : JobsOnly p (slotsBy p whole) × Continues p need t (slotsBy p whole) × Serves p need (slotsBy p whole)
+        order-serves = (
+          λ s. named s (decLt s (p .slots)),
+          (slots-by-long p whole, λ s l. slots-by-at p whole s (omega (arith, inside)) ∙ whole-before s l),
+          slots-by-serves p whole need ok (λ k l high. omega (arith, whole-serves k l high)),
+        )
           where
-            named : (s : ℕ) → Dec (s < p .slots) → getD order s 0 ≤ p .jobs
-            named s (yes l) = rw (order-at s l) (whole-named s)
-            named s (no l) = rw (List·getD-eq-default order 0 {n = s} (omega (arith, long))) zero-le
-
-            serves : Serves p need order
-            serves n h high =
-                let i = place-of p n h in
-                let k = i .0 in
-                let level : isHi (jobAt p k) ≡ true = rw (i .1, job-no p k) at high in
-                let a = given-agree (λ s. getD order s 0) whole (suc k) (jobAt p k .release) (jobAt p k .deadline) (λ s m l. order-at s (omega (arith, ok .ends k (i .2)))) in
-                rw (i .1) (omega (arith, in-window p k order, whole-serves k (i .2) level))
+            named : (s : ℕ) → Dec (s < p .slots) → getD (slotsBy p whole) s 0 ≤ p .jobs
+            named s (yes l) = rw (slots-by-at p whole s l) (whole-named s)
+            named s (no l) = rw (List·getD-eq-default (slotsBy p whole) 0 {n = s} (omega (arith, slots-by-long p whole))) zero-le
 
       -- with A2 there is the order
       pub order-found : A2 p → (order : List ℕ) × JobsOnly p order × Continues p need t order × Serves p need order
       order-found a2 =
           let laid = order-exists (windowsOf p) (p .slots) t (still t) (ok .ends) (feasible p (a1-of-a2 p ok a2) t (still t) (still-small t) (overrun-needs a2)) in
           let s = order-serves laid in
-          (order laid, s .0, s .1, s .2)
+          (slotsBy p (whole laid), s .0, s .1, s .2)

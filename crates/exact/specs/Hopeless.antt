@@ -4,14 +4,15 @@ use Prim.Native.Nat.{ℕ, suc, _≤_, _<_}
 use mathlib.Core.Path.{_≡_}
 use mathlib.Core.Logic.{_↔_}
 use mathlib.Core.Bool.{true}
-use mathlib.Core.List.{List}
+use mathlib.Core.List.{List, map}
 use lib.ListN.{length, getD}
-use Rattle.words.specs.Words.{if_then_else_, _<?_}
+use Rattle.words.specs.Words.{if_then_else_, _<?_, countUp}
 use Rattle.answers.specs.declared.Answer.the-variants.{Accepted}
 use Rattle.plan.specs.declared.Plan.{Plan}
 use Rattle.plan.specs.Plan.{jobNo, isHi, tableAt, tableSlots}
-use Rattle.acceptance.specs.Acceptance.{wellFormed, acceptance}
-use Rattle.promises.specs.Demands.{Sized, JobOf, inWindow}
+use Rattle.acceptance_promise.specs.Promise.{Sized, JobOf, inWindow}
+use Rattle.acceptance.specs.Acceptance.{wellFormed}
+use Rattle.acceptance.specs.Analysis.{analysis}
 
 -- needs: for each job the slots it will turn out to need, none above its larger budget
 abbrev pub Needs : Plan → (ℕ → ℕ) → Type 0
@@ -20,6 +21,10 @@ Needs p need = (k : ℕ) → JobOf p k → need k ≤ jobNo p k .hi
 -- the table run as written, unused slots idle: slot s goes to the table's job while that needs more than the table slots it has had
 unfoldable pub tableRun : Plan → (ℕ → ℕ) → ℕ → ℕ
 tableRun p need s = if tableSlots p s (tableAt p s) <? need (tableAt p s) then tableAt p s else 0
+
+-- the list of the N slots, who has each
+abbrev pub slotsBy : Plan → (ℕ → ℕ) → List ℕ
+slotsBy p who = map who (countUp 0 (p .slots))
 
 -- the table run overruns at border t: slot t - 1 is the lo-th table slot of a HI job that needs more than lo
 pub record OverrunsAt (p : Plan) (need : ℕ → ℕ) (t : ℕ) : Type 0 where
@@ -53,16 +58,26 @@ Serves p need order = (k : ℕ) → JobOf p k → isHi (jobNo p k) ≡ true → 
 abbrev pub Hopeless : Plan → (ℕ → ℕ) → Type 0
 Hopeless p need = (t : ℕ) × FirstOverrun p need t × ((order : List ℕ) → Continues p need t order → Serves p need order → ⊥)
 
--- 3c: a plan record that passes 2 to 7 is refused exactly when some needs make it hopeless
+-- some needs make the plan hopeless
+abbrev pub HopelessUnderSome : Plan → Type 0
+HopelessUnderSome p = (need : ℕ → ℕ) × Needs p need × Hopeless p need
+
+-- 3c: a plan record that passes 2 to 7 is refused by the analysis exactly when some needs make it hopeless
 abbrev pub Demand3c : Type 0
-Demand3c = (p : Plan) → Sized p → wellFormed p ≡ Accepted → (acceptance p ≡ Accepted → ⊥) ↔ ((need : ℕ → ℕ) × Needs p need × Hopeless p need)
+Demand3c = (p : Plan) → Sized p → wellFormed p ≡ Accepted → (analysis p .answer ≡ Accepted → ⊥) ↔ HopelessUnderSome p
 
 -- its two halves. No plan is refused wrongly: the needs that make it hopeless are found
 abbrev pub Demand3cRefused : Type 0
-Demand3cRefused = (p : Plan) → Sized p → wellFormed p ≡ Accepted → (acceptance p ≡ Accepted → ⊥) → (need : ℕ → ℕ) × Needs p need × Hopeless p need
+Demand3cRefused = (p : Plan) → Sized p → wellFormed p ≡ Accepted → (analysis p .answer ≡ Accepted → ⊥) → HopelessUnderSome p
 
 -- no plan is accepted wrongly, and more: whatever the needs, at the first overrun there is the order that serves
 abbrev pub Demand3cAccepted : Type 0
 Demand3cAccepted =
-    (p : Plan) → Sized p → acceptance p ≡ Accepted → (need : ℕ → ℕ) → Needs p need → (t : ℕ) → FirstOverrun p need t →
+    (p : Plan) → Sized p → analysis p .answer ≡ Accepted → (need : ℕ → ℕ) → Needs p need → (t : ℕ) → FirstOverrun p need t →
     (order : List ℕ) × JobsOnly p order × Continues p need t order × Serves p need order
+
+-- without an overrun nothing need be continued: the table run itself serves, whatever the needs
+abbrev pub TableRunServes : Type 0
+TableRunServes =
+    (p : Plan) → Sized p → wellFormed p ≡ Accepted → (need : ℕ → ℕ) → ((t : ℕ) → OverrunsAt p need t → ⊥) →
+    Serves p need (slotsBy p (tableRun p need))
