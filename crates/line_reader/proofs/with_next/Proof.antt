@@ -1,7 +1,5 @@
 -- `line_reader::with_next` meets its contract: the value stays, with the place that was passed.
-use mathlib.Core.Path.{refl}
 use borrow.Author.Needs.{needs}
-use Rattle.line_reader.specs.Line.{withNext}
 use Rattle.line_reader.proofs.with_next.Statement.{statement}
 use Rattle.line_reader.proofs.with_next.Tie as tie
 
