@@ -2,6 +2,10 @@
 
 use super::intervals::{Interval, Layout, Row, INTERVALS};
 use super::plan::{Job, Plan, Refusal, JOBS, SLOTS};
+use super::rules::Rules;
+
+/// The most runs of adjoining table slots that a job has (17).
+const RUNS: u16 = 4;
 
 /// What an accepted plan's analysis shows.
 #[derive(Clone, Debug)]
@@ -17,9 +21,14 @@ impl Analysis {
     }
 }
 
-/// All checks, then the spares at border 0, where nothing is given yet.
+/// The analysis by the rules that the product has.
 pub fn analyse(plan: &Plan) -> Result<Analysis, Refusal> {
-    well_formed(plan)?;
+    analyse_by(Rules::LANDED, plan)
+}
+
+/// All checks, then the spares at border 0, where nothing is given yet.
+pub fn analyse_by(rules: Rules, plan: &Plan) -> Result<Analysis, Refusal> {
+    well_formed_by(rules, plan)?;
     windows_hold_the_work(plan)?;
     let layout = Layout::of(plan);
     table_keeps_the_spare(plan, &layout)?;
@@ -41,8 +50,23 @@ fn hi_budget(job: &Job) -> i32 {
     }
 }
 
-/// Checks 2 to 7.
+/// Checks 2 to 7, and 17 where it has landed.
 pub fn well_formed(plan: &Plan) -> Result<(), Refusal> {
+    well_formed_by(Rules::LANDED, plan)
+}
+
+/// Checks 2 to 7, and 17 where the rules have it.
+pub fn well_formed_by(rules: Rules, plan: &Plan) -> Result<(), Refusal> {
+    well_formed_but(rules, plan, |_| true, |_| true)
+}
+
+/// The same, where 7 is asked only of the jobs, from 0, that are `owed` their table slots and 17 only of `planned` ones.
+pub fn well_formed_but(
+    rules: Rules,
+    plan: &Plan,
+    owed: impl Fn(usize) -> bool,
+    planned: impl Fn(usize) -> bool,
+) -> Result<(), Refusal> {
     if !(1..=SLOTS).contains(&usize::from(plan.slots)) {
         return Err(Refusal::SlotLimit);
     }
@@ -67,10 +91,27 @@ pub fn well_formed(plan: &Plan) -> Result<(), Refusal> {
             _ => return Err(Refusal::Table { slot }),
         }
     }
-    match jobs.iter().zip(counts).position(|(job, count)| job.lo != count) {
-        Some(k) => Err(Refusal::Count { job: k + 1 }),
+    if let Some(k) = (0..jobs.len()).position(|k| owed(k) && jobs[k].lo != counts[k]) {
+        return Err(Refusal::Count { job: k + 1 });
+    }
+    let runs = runs(plan);
+    match (0..jobs.len()).position(|k| rules.chopped && planned(k) && runs[k] > RUNS) {
+        Some(k) => Err(Refusal::Chopped { job: k + 1 }),
         None => Ok(()),
     }
+}
+
+/// How many longest rows of adjoining table slots each job has.
+fn runs(plan: &Plan) -> [u16; JOBS] {
+    let mut runs = [0; JOBS];
+    let mut before = 0;
+    for &number in plan.row() {
+        if number != 0 && number != before {
+            runs[usize::from(number) - 1] += 1;
+        }
+        before = number;
+    }
+    runs
 }
 
 fn window_holds(job: &Job, slots: u16) -> bool {

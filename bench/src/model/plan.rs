@@ -81,10 +81,14 @@ pub enum Refusal {
     WrongSlot { t: u16 },
     WrongKind { t: u16 },
     Room { needed: usize },
+    Chopped { job: usize },
+    Request { t: u16 },
+    NoNumber { t: u16 },
+    TooFew { open: usize },
 }
 
 impl Refusal {
-    /// The number in document 01's table.
+    /// The number in document 01's table, or in document 02.
     pub fn number(self) -> u16 {
         match self {
             Refusal::Form { .. } => 1,
@@ -101,6 +105,10 @@ impl Refusal {
             Refusal::WrongSlot { .. } => 12,
             Refusal::WrongKind { .. } => 13,
             Refusal::Room { .. } => 14,
+            Refusal::Chopped { .. } => 17,
+            Refusal::Request { .. } => 19,
+            Refusal::NoNumber { .. } => 20,
+            Refusal::TooFew { .. } => 21,
         }
     }
 
@@ -110,13 +118,16 @@ impl Refusal {
             Refusal::Form { line } => (line, None),
             Refusal::SlotLimit => (1, None),
             Refusal::JobLimit => (2, None),
-            Refusal::Window { job } | Refusal::Budget { job } | Refusal::Count { job } => (job, None),
+            Refusal::Window { job } | Refusal::Budget { job } => (job, None),
+            Refusal::Count { job } | Refusal::Chopped { job } => (job, None),
             Refusal::Table { slot } => (slot, None),
             Refusal::Overload { from, to } => (usize::from(from), Some(usize::from(to))),
             Refusal::Spare { border } => (border, None),
             Refusal::Incoherent => (0, None),
             Refusal::Over { t } | Refusal::WrongSlot { t } | Refusal::WrongKind { t } => (usize::from(t), None),
             Refusal::Room { needed } => (needed, None),
+            Refusal::Request { t } | Refusal::NoNumber { t } => (usize::from(t), None),
+            Refusal::TooFew { open } => (open, None),
         }
     }
 }

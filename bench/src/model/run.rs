@@ -1,8 +1,9 @@
-//! The executive: a run's record, its coherence, the choice for a slot, and one step.
+//! The executive: a run's record, its coherence, the choice for a slot, and one step. Requests for slots stand in `firm`.
 
-use super::acceptance::{analyse, well_formed};
+use super::acceptance::{analyse_by, well_formed_but};
 use super::intervals::{Layout, Row, INTERVALS};
 use super::plan::{Job, Plan, Refusal, JOBS};
+use super::rules::Rules;
 
 /// T follows the table; H is entered by an overrun.
 #[derive(Clone, Copy, Debug, PartialEq, Eq)]
@@ -20,17 +21,25 @@ pub enum Standing {
     Dropped(u16),
 }
 
+/// Whether a job was in the plan from the start or was asked for in the run.
+#[derive(Clone, Copy, Debug, PartialEq, Eq)]
+pub enum Origin {
+    Planned,
+    Firm,
+}
+
 /// A job's record in a run.
 #[derive(Clone, Copy, Debug, PartialEq, Eq)]
 pub struct Entry {
     pub standing: Standing,
     pub given: u16,
+    pub origin: Origin,
 }
 
 impl Entry {
-    pub const BLANK: Entry = Entry { standing: Standing::Waiting, given: 0 };
+    pub const BLANK: Entry = Entry { standing: Standing::Waiting, given: 0, origin: Origin::Planned };
 
-    fn is_live(&self) -> bool {
+    pub fn is_live(&self) -> bool {
         self.standing == Standing::Waiting
     }
 
@@ -46,6 +55,7 @@ impl Entry {
 /// A run's whole record. Its fields are open: any record can be asked for, and an incoherent one is refused.
 #[derive(Clone, Debug, PartialEq)]
 pub struct Run {
+    pub rules: Rules,
     pub plan: Plan,
     pub t: u16,
     pub phase: Phase,
@@ -84,6 +94,7 @@ pub struct Report {
 
 impl Run {
     pub const BLANK: Run = Run {
+        rules: Rules::LANDED,
         plan: Plan::BLANK,
         t: 0,
         phase: Phase::T,
@@ -92,19 +103,27 @@ impl Run {
         lo: [0; INTERVALS],
     };
 
-    /// A new run of an accepted plan.
+    /// A new run of an accepted plan, by the rules that the product has.
     pub fn start(plan: &Plan) -> Result<Run, Refusal> {
-        let analysis = analyse(plan)?;
-        Ok(Run { plan: plan.clone(), hi: analysis.hi, lo: analysis.lo, ..Run::BLANK })
+        Run::start_by(Rules::LANDED, plan)
+    }
+
+    /// A new run of an accepted plan.
+    pub fn start_by(rules: Rules, plan: &Plan) -> Result<Run, Refusal> {
+        let analysis = analyse_by(rules, plan)?;
+        Ok(Run { rules, plan: plan.clone(), hi: analysis.hi, lo: analysis.lo, ..Run::BLANK })
     }
 
     pub fn coherent(&self) -> bool {
         self.layout().is_ok()
     }
 
-    /// The plan's layout, if the record is coherent.
-    fn layout(&self) -> Result<Layout, Refusal> {
-        let clauses_hold = well_formed(&self.plan).is_ok()
+    /// The plan's layout, if the record is coherent. An ended firm job is not owed its table slots: others may have them.
+    pub fn layout(&self) -> Result<Layout, Refusal> {
+        let planned = |k: usize| self.entry[k].origin == Origin::Planned;
+        let owed = |k: usize| planned(k) || self.entry[k].is_live();
+        let clauses_hold = well_formed_but(self.rules, &self.plan, owed, planned).is_ok()
+            && self.planned_come_first()
             && self.t <= self.plan.slots
             && self.jobs().all(|(_, job, entry)| entry.holds(job, self.t));
         if !clauses_hold {
@@ -117,13 +136,17 @@ impl Run {
         Ok(layout)
     }
 
-    /// The planned jobs: place from 0, job, entry.
-    fn jobs(&self) -> impl Iterator<Item = (usize, &Job, &Entry)> {
+    fn planned_come_first(&self) -> bool {
+        self.entry[..self.plan.planned().len()].is_sorted_by_key(|entry| entry.origin == Origin::Firm)
+    }
+
+    /// The jobs on record: place from 0, job, entry.
+    pub fn jobs(&self) -> impl Iterator<Item = (usize, &Job, &Entry)> {
         self.plan.planned().iter().zip(&self.entry).enumerate().map(|(k, (job, entry))| (k, job, entry))
     }
 
     /// Both spare rows at border t; all 0 at t = N.
-    fn fresh_rows(&self, layout: &Layout) -> (Row, Row) {
+    pub fn fresh_rows(&self, layout: &Layout) -> (Row, Row) {
         let (mut hi, mut lo) = ([0; INTERVALS], [0; INTERVALS]);
         for (k, job, entry) in self.jobs().filter(|(_, _, entry)| entry.is_live()) {
             let home = layout.home(k);
@@ -148,7 +171,7 @@ impl Run {
         Ok(self.choice(&layout))
     }
 
-    fn check_not_over(&self) -> Result<(), Refusal> {
+    pub fn check_not_over(&self) -> Result<(), Refusal> {
         if self.t == self.plan.slots {
             Err(Refusal::Over { t: self.t })
         } else {
@@ -167,10 +190,14 @@ impl Run {
                 }
                 ready
             }
-            Phase::H => match self.current_spares(layout) {
-                (1.., 0..) => ready,
-                _ => ready & self.set_of(|job, _| job.is_hi()),
-            },
+            Phase::H => {
+                let high = ready & self.set_of(|job, _| job.is_hi());
+                match self.current_spares(layout) {
+                    (1.., 0..) => ready,
+                    (1.., _) if self.rules.dead_slot && high == 0 => ready,
+                    _ => high,
+                }
+            }
         };
         Choice { slot: self.earliest_deadline(candidates), ready }
     }

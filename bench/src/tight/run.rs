@@ -3,7 +3,7 @@
 
 use super::acceptance::{analyse, well_formed, Counts};
 use super::intervals::{Layout, Rows};
-use crate::model::{Entry, Job, Kind, Phase, Refusal, Report, Run, Slot, Standing, JOBS};
+use crate::model::{Entry, Job, Kind, Phase, Refusal, Report, Rules, Run, Slot, Standing, JOBS};
 
 /// Makes a blank run that holds a plan into a new run of it.
 pub fn start(run: &mut Run) -> Result<(), Refusal> {
@@ -101,8 +101,14 @@ fn choice(run: &Run, work: &Work, spares: (i32, i32)) -> Slot {
             }
             work.ready
         }
-        Phase::H if spares.0 > 0 && spares.1 >= 0 => work.ready,
-        Phase::H => members(work.ready).filter(|&k| run.plan.job[k].is_hi()).fold(0, |set, k| set | 1 << k),
+        Phase::H => {
+            let high = members(work.ready).filter(|&k| run.plan.job[k].is_hi()).fold(0, |set, k| set | 1 << k);
+            match spares {
+                (1.., 0..) => work.ready,
+                (1.., _) if Rules::LANDED.dead_slot && high == 0 => work.ready,
+                _ => high,
+            }
+        }
     };
     match members(candidates).min_by_key(|&k| (run.plan.job[k].deadline, run.plan.job[k].level)) {
         Some(k) => Slot::Job(k as u16 + 1),
@@ -141,7 +147,7 @@ fn apply(run: &mut Run, work: &mut Work, k: usize, kind: Kind) {
         _ if given == run.plan.job[k].hi => Standing::Cut(run.t),
         _ => Standing::Waiting,
     };
-    change(run, work, k, Entry { standing, given });
+    change(run, work, k, Entry { standing, given, ..run.entry[k] });
 }
 
 fn drop_late(run: &mut Run, work: &mut Work) {
