@@ -60,7 +60,7 @@ pub fn well_formed_by(rules: Rules, plan: &Plan) -> Result<(), Refusal> {
     well_formed_but(rules, plan, |_| true, |_| true)
 }
 
-/// The same, where 7 is asked only of the jobs, from 0, that are `owed` their table slots and 17 only of `planned` ones.
+/// The same, where 7 is asked only of the jobs, from 0, that are `owed` their table slots, and 17 only of `planned` ones.
 pub fn well_formed_but(
     rules: Rules,
     plan: &Plan,

@@ -4,6 +4,7 @@
 pub mod acceptance;
 pub mod firm;
 pub mod intervals;
+pub mod lost;
 pub mod plan;
 pub mod programs;
 pub mod rules;

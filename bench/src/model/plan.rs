@@ -82,6 +82,7 @@ pub enum Refusal {
     WrongKind { t: u16 },
     Room { needed: usize },
     Chopped { job: usize },
+    Loss { t: u16 },
     Request { t: u16 },
     NoNumber { t: u16 },
     TooFew { open: usize },
@@ -106,6 +107,7 @@ impl Refusal {
             Refusal::WrongKind { .. } => 13,
             Refusal::Room { .. } => 14,
             Refusal::Chopped { .. } => 17,
+            Refusal::Loss { .. } => 18,
             Refusal::Request { .. } => 19,
             Refusal::NoNumber { .. } => 20,
             Refusal::TooFew { .. } => 21,
@@ -126,7 +128,7 @@ impl Refusal {
             Refusal::Incoherent => (0, None),
             Refusal::Over { t } | Refusal::WrongSlot { t } | Refusal::WrongKind { t } => (usize::from(t), None),
             Refusal::Room { needed } => (needed, None),
-            Refusal::Request { t } | Refusal::NoNumber { t } => (usize::from(t), None),
+            Refusal::Loss { t } | Refusal::Request { t } | Refusal::NoNumber { t } => (usize::from(t), None),
             Refusal::TooFew { open } => (open, None),
         }
     }

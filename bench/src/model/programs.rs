@@ -89,6 +89,7 @@ fn print_jobs(out: &mut Vec<u8>, run: &Run) {
             Standing::Finished(_) => 'F',
             Standing::Cut(_) => 'C',
             Standing::Dropped(_) => 'D',
+            Standing::Missed(_) => 'M',
         };
         print_line!(out, "job={},{letter},{}", k + 1, entry.given);
     }

@@ -1,4 +1,5 @@
-//! Which requests of document 02 the rules include. A request lands by its line in `LANDED`; its tests turn it on alone.
+//! Which requests of document 02 the rules include. A request lands by its line in `LANDED`; its tests turn it on
+//! alone.
 
 /// One switch for each request that changes a rule of document 01.
 #[derive(Clone, Copy, Debug, PartialEq, Eq)]
@@ -7,11 +8,13 @@ pub struct Rules {
     pub dead_slot: bool,
     /// K3: refusal 17 for a job in more than four runs of table slots.
     pub chopped: bool,
+    /// K6: a live HI job stands as missed when its deadline comes.
+    pub missed: bool,
 }
 
 impl Rules {
     /// Document 01 alone.
-    pub const BASE: Rules = Rules { dead_slot: false, chopped: false };
+    pub const BASE: Rules = Rules { dead_slot: false, chopped: false, missed: false };
 
     /// The rules that the product has.
     pub const LANDED: Rules = Rules { ..Rules::BASE };

@@ -1,4 +1,5 @@
-//! The executive: a run's record, its coherence, the choice for a slot, and one step. Requests for slots stand in `firm`.
+//! The executive: a run's record, its coherence, the choice for a slot, and one step. Requests stand in `firm`, lost
+//! slots in `lost`.
 
 use super::acceptance::{analyse_by, well_formed_but};
 use super::intervals::{Layout, Row, INTERVALS};
@@ -19,6 +20,18 @@ pub enum Standing {
     Finished(u16),
     Cut(u16),
     Dropped(u16),
+    /// A HI job whose deadline came first (K6).
+    Missed(u16),
+}
+
+impl Standing {
+    /// The border at which an ended job ended.
+    pub fn end(self) -> Option<u16> {
+        match self {
+            Standing::Waiting => None,
+            Standing::Finished(end) | Standing::Cut(end) | Standing::Dropped(end) | Standing::Missed(end) => Some(end),
+        }
+    }
 }
 
 /// Whether a job was in the plan from the start or was asked for in the run.
@@ -45,9 +58,9 @@ impl Entry {
 
     /// The clauses of coherence that speak of one job.
     fn holds(&self, job: &Job, t: u16) -> bool {
-        match self.standing {
-            Standing::Waiting => self.given < job.hi,
-            Standing::Finished(end) | Standing::Cut(end) | Standing::Dropped(end) => self.given <= job.hi && end <= t,
+        match self.standing.end() {
+            None => self.given < job.hi,
+            Some(end) => self.given <= job.hi && end <= t,
         }
     }
 }
@@ -118,7 +131,8 @@ impl Run {
         self.layout().is_ok()
     }
 
-    /// The plan's layout, if the record is coherent. An ended firm job is not owed its table slots: others may have them.
+    /// The plan's layout, if the record is coherent. An ended firm job is not owed its table slots: others may have
+    /// them.
     pub fn layout(&self) -> Result<Layout, Refusal> {
         let planned = |k: usize| self.entry[k].origin == Origin::Planned;
         let owed = |k: usize| planned(k) || self.entry[k].is_live();
@@ -232,7 +246,7 @@ impl Run {
         if let Slot::Job(number) = slot {
             self.report(usize::from(number) - 1, report.kind);
         }
-        self.drop_late();
+        self.expire();
         self.phase = self.next_phase(slot);
         (self.hi, self.lo) = self.fresh_rows(&layout);
         Ok((slot, spares))
@@ -249,30 +263,39 @@ impl Run {
         }
     }
 
-    /// Live LO jobs whose deadline has come are dropped.
-    fn drop_late(&mut self) {
+    /// Live LO jobs whose deadline has come are dropped; HI ones stand as missed where the rules say so.
+    pub fn expire(&mut self) {
         for (job, entry) in self.plan.planned().iter().zip(&mut self.entry) {
-            if entry.is_live() && !job.is_hi() && job.deadline <= self.t {
-                entry.standing = Standing::Dropped(self.t);
+            if entry.is_live() && job.deadline <= self.t {
+                match job.is_hi() {
+                    false => entry.standing = Standing::Dropped(self.t),
+                    true if self.rules.missed => entry.standing = Standing::Missed(self.t),
+                    true => (),
+                }
             }
         }
     }
 
     /// The phase after a slot, judged on the record as it then stands.
     fn next_phase(&self, slot: Slot) -> Phase {
-        let overruns = |k: usize| {
-            let (job, entry) = (&self.plan.job[k], &self.entry[k]);
-            job.is_hi() && entry.is_live() && entry.given >= job.lo
-        };
-        let high = match (self.phase, slot) {
-            (Phase::T, Slot::Idle) => false,
-            (Phase::T, Slot::Job(number)) => overruns(usize::from(number) - 1),
-            (Phase::H, _) => {
-                let counts = self.table_counts();
-                self.jobs().any(|(k, _, entry)| overruns(k) || entry.is_live() && entry.given < counts[k])
-            }
-        };
-        if high {
+        match (self.phase, slot) {
+            (Phase::T, Slot::Job(number)) if self.overruns(usize::from(number) - 1) => Phase::H,
+            (Phase::T, _) => Phase::T,
+            (Phase::H, _) => self.phase_from_h(),
+        }
+    }
+
+    /// A live HI job that has had its smaller budget.
+    fn overruns(&self, k: usize) -> bool {
+        let (job, entry) = (&self.plan.job[k], &self.entry[k]);
+        job.is_hi() && entry.is_live() && entry.given >= job.lo
+    }
+
+    /// The return test.
+    pub fn phase_from_h(&self) -> Phase {
+        let counts = self.table_counts();
+        let stays = |k: usize, entry: &Entry| self.overruns(k) || entry.is_live() && entry.given < counts[k];
+        if self.jobs().any(|(k, _, entry)| stays(k, entry)) {
             Phase::H
         } else {
             Phase::T

@@ -38,7 +38,7 @@ fn without_the_request_the_slot_idles() {
 fn nothing_else_changes() {
     let mut rng = Rng::new(2);
     let mut changed = 0;
-    for _ in 0..8000 {
+    for _ in 0..4000 {
         let (mut run, _) = run_record(&mut rng);
         run.rules = Rules::BASE;
         let base = run.choose();
@@ -57,5 +57,5 @@ fn nothing_else_changes() {
         assert_eq!(choice, Ok(Choice { slot, ..before }));
         changed += usize::from(slot != before.slot);
     }
-    assert!(changed > 5, "{changed}");
+    assert!(changed > 2, "{changed}");
 }

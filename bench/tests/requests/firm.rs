@@ -196,7 +196,7 @@ fn kept(run: &Run, granted: &Granted, last_phase: Phase) {
 fn requests_in_random_runs() {
     let mut rng = Rng::new(7);
     let (mut yes, mut again, mut high) = (0, 0, 0);
-    for _ in 0..1500 {
+    for _ in 0..800 {
         let plan = plan_record(&mut rng);
         let Ok(mut run) = Run::start_by(Rules::BASE, &plan) else { continue };
         let mut granted: Vec<Granted> = Vec::new();
@@ -225,5 +225,5 @@ fn requests_in_random_runs() {
         }
         assert_eq!(run.ask(1, plan.slots), Err(Refusal::Over { t: plan.slots }));
     }
-    assert!(yes > 1000 && again > 200 && high > 300, "{yes} {again} {high}");
+    assert!(yes > 500 && again > 100 && high > 150, "{yes} {again} {high}");
 }

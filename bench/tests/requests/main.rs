@@ -3,6 +3,7 @@
 mod chopped;
 mod dead_slot;
 mod firm;
+mod lost;
 
 use bench::model::*;
 use bench::random::Rng;
