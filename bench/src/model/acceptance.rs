@@ -1,6 +1,6 @@
 //! The checks 2 to 9 in their order, and the analysis: intervals and both spare rows at border 0.
 
-use super::intervals::{Interval, Layout, Row, INTERVALS};
+use super::intervals::{Ends, Interval, Layout, Row, INTERVALS};
 use super::plan::{Job, Plan, Refusal, JOBS, SLOTS};
 use super::rules::Rules;
 
@@ -13,6 +13,8 @@ pub struct Analysis {
     pub layout: Layout,
     pub hi: Row,
     pub lo: Row,
+    pub hi_end: Ends,
+    pub lo_end: Ends,
 }
 
 impl Analysis {
@@ -31,14 +33,15 @@ pub fn analyse_by(rules: Rules, plan: &Plan) -> Result<Analysis, Refusal> {
     well_formed_by(rules, plan)?;
     windows_hold_the_work(plan)?;
     let layout = Layout::of(plan);
-    table_keeps_the_spare(plan, &layout)?;
+    table_keeps_the_spare(rules, plan, &layout)?;
     let (mut hi, mut lo) = ([0; INTERVALS], [0; INTERVALS]);
     for (k, job) in plan.planned().iter().enumerate() {
         hi[layout.home(k)] += hi_budget(job);
         lo[layout.home(k)] += i32::from(job.lo);
     }
+    let (hi_end, lo_end) = (layout.ends(rules, 0, &hi), layout.ends(rules, 0, &lo));
     let (hi, lo) = (layout.spares(0, &hi), layout.spares(0, &lo));
-    Ok(Analysis { layout, hi, lo })
+    Ok(Analysis { layout, hi, lo, hi_end, lo_end })
 }
 
 /// What a job asks of the HI spares before it runs.
@@ -60,7 +63,8 @@ pub fn well_formed_by(rules: Rules, plan: &Plan) -> Result<(), Refusal> {
     well_formed_but(rules, plan, |_| true, |_| true)
 }
 
-/// The same, where 7 is asked only of the jobs, from 0, that are `owed` their table slots, and 17 only of `planned` ones.
+/// The same, where 7 is asked only of the jobs, from 0, that are `owed` their table slots, and 17 only of `planned`
+/// ones.
 pub fn well_formed_but(
     rules: Rules,
     plan: &Plan,
@@ -147,15 +151,17 @@ fn windows_hold_the_work(plan: &Plan) -> Result<(), Refusal> {
 }
 
 /// Check 9: along the table, each job ending on its lo-th slot, the current HI spare stays at 0 or above.
-fn table_keeps_the_spare(plan: &Plan, layout: &Layout) -> Result<(), Refusal> {
+fn table_keeps_the_spare(rules: Rules, plan: &Plan, layout: &Layout) -> Result<(), Refusal> {
     let mut needed = [0; INTERVALS];
     for (k, job) in plan.planned().iter().enumerate() {
         needed[layout.home(k)] += hi_budget(job);
     }
     let mut given = [0; JOBS];
     for (border, &number) in plan.row().iter().enumerate() {
-        if layout.current_spare(border as u16, &needed) < 0 {
-            return Err(Refusal::Spare { border });
+        let t = border as u16;
+        if layout.current_spare(t, &needed) < 0 {
+            let end = layout.ends(rules, t, &needed)[layout.past(t)];
+            return Err(if rules.ends { Refusal::SpareBy { border, end } } else { Refusal::Spare { border } });
         }
         if number == 0 {
             continue;

@@ -1,5 +1,6 @@
 //! K7: firm requests. C slots before a deadline are asked for in a running plan; a yes makes a LO job of them.
 
+use super::intervals::Layout;
 use super::plan::{Job, Level, Refusal, JOBS};
 use super::run::{Entry, Origin, Run};
 
@@ -78,8 +79,7 @@ impl Run {
         self.plan.job[k] = Job { level: Level::Lo, release: self.t, deadline, lo: count, hi: count };
         self.entry[k] = Entry { origin: Origin::Firm, ..Entry::BLANK };
         self.plan.jobs = self.plan.jobs.max(grant.number);
-        let layout = super::intervals::Layout::of(&self.plan);
-        (self.hi, self.lo) = self.fresh_rows(&layout);
+        self.refresh(&Layout::of(&self.plan));
         grant.number
     }
 }

@@ -1,6 +1,7 @@
 //! K6: slots lost to the watchdog. They count as idle, the clock moves on, and the answer says whether every HI job can
 //! still have its larger budget.
 
+use super::intervals::Layout;
 use super::plan::Refusal;
 use super::run::{Run, Standing};
 
@@ -33,8 +34,7 @@ impl Run {
         self.t += count;
         self.expire();
         self.phase = self.phase_from_h();
-        let layout = super::intervals::Layout::of(&self.plan);
-        (self.hi, self.lo) = self.fresh_rows(&layout);
+        self.refresh(&Layout::of(&self.plan));
         let missed = self.jobs().any(|(_, job, entry)| job.is_hi() && matches!(entry.standing, Standing::Missed(_)));
         !missed && self.some_order_exists()
     }

@@ -12,9 +12,9 @@ pub mod run;
 pub mod text;
 
 pub use acceptance::{analyse, analyse_by, well_formed, well_formed_by, Analysis};
-pub use intervals::{Interval, Layout, Row, INTERVALS};
+pub use intervals::{Ends, Interval, Layout, Row, INTERVALS};
 pub use plan::{Job, Level, Plan, Refusal, JOBS, SLOTS};
-pub use programs::{check_output, run_output};
+pub use programs::{check_output, check_output_by, judge_output_by, run_output, run_output_by};
 pub use rules::Rules;
 pub use run::{Choice, Entry, Kind, Origin, Phase, Report, Run, Slot, Standing};
 pub use text::{read_plan, read_prefix, write_plan};

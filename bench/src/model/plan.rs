@@ -67,25 +67,63 @@ impl PartialEq for Plan {
 /// The refusals, each with its place or places.
 #[derive(Clone, Copy, Debug, PartialEq, Eq)]
 pub enum Refusal {
-    Form { line: usize },
+    Form {
+        line: usize,
+    },
     SlotLimit,
     JobLimit,
-    Window { job: usize },
-    Budget { job: usize },
-    Table { slot: usize },
-    Count { job: usize },
-    Overload { from: u16, to: u16 },
-    Spare { border: usize },
+    Window {
+        job: usize,
+    },
+    Budget {
+        job: usize,
+    },
+    Table {
+        slot: usize,
+    },
+    Count {
+        job: usize,
+    },
+    Overload {
+        from: u16,
+        to: u16,
+    },
+    Spare {
+        border: usize,
+    },
+    /// The same with the HI deadline that makes it (K4).
+    SpareBy {
+        border: usize,
+        end: u16,
+    },
     Incoherent,
-    Over { t: u16 },
-    WrongSlot { t: u16 },
-    WrongKind { t: u16 },
-    Room { needed: usize },
-    Chopped { job: usize },
-    Loss { t: u16 },
-    Request { t: u16 },
-    NoNumber { t: u16 },
-    TooFew { open: usize },
+    Over {
+        t: u16,
+    },
+    WrongSlot {
+        t: u16,
+    },
+    WrongKind {
+        t: u16,
+    },
+    Room {
+        needed: usize,
+    },
+    Chopped {
+        job: usize,
+    },
+    Loss {
+        t: u16,
+    },
+    Request {
+        t: u16,
+    },
+    NoNumber {
+        t: u16,
+    },
+    TooFew {
+        open: usize,
+    },
 }
 
 impl Refusal {
@@ -100,7 +138,7 @@ impl Refusal {
             Refusal::Table { .. } => 6,
             Refusal::Count { .. } => 7,
             Refusal::Overload { .. } => 8,
-            Refusal::Spare { .. } => 9,
+            Refusal::Spare { .. } | Refusal::SpareBy { .. } => 9,
             Refusal::Incoherent => 10,
             Refusal::Over { .. } => 11,
             Refusal::WrongSlot { .. } => 12,
@@ -114,7 +152,7 @@ impl Refusal {
         }
     }
 
-    /// The place; 8 has a second one.
+    /// The place; 8 has a second one, 9 too once it names its deadline.
     pub fn places(self) -> (usize, Option<usize>) {
         match self {
             Refusal::Form { line } => (line, None),
@@ -125,6 +163,7 @@ impl Refusal {
             Refusal::Table { slot } => (slot, None),
             Refusal::Overload { from, to } => (usize::from(from), Some(usize::from(to))),
             Refusal::Spare { border } => (border, None),
+            Refusal::SpareBy { border, end } => (border, Some(usize::from(end))),
             Refusal::Incoherent => (0, None),
             Refusal::Over { t } | Refusal::WrongSlot { t } | Refusal::WrongKind { t } => (usize::from(t), None),
             Refusal::Room { needed } => (needed, None),

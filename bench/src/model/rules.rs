@@ -10,11 +10,15 @@ pub struct Rules {
     pub chopped: bool,
     /// K6: a live HI job stands as missed when its deadline comes.
     pub missed: bool,
+    /// K4: beside each spare the end that makes it; printed, compared in coherence, and 9's second place.
+    pub ends: bool,
+    /// K8: the run program takes lost slots and firm requests among the reports.
+    pub calls: bool,
 }
 
 impl Rules {
     /// Document 01 alone.
-    pub const BASE: Rules = Rules { dead_slot: false, chopped: false, missed: false };
+    pub const BASE: Rules = Rules { dead_slot: false, chopped: false, missed: false, ends: false, calls: false };
 
     /// The rules that the product has.
     pub const LANDED: Rules = Rules { ..Rules::BASE };

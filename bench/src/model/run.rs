@@ -1,8 +1,8 @@
 //! The executive: a run's record, its coherence, the choice for a slot, and one step. Requests stand in `firm`, lost
 //! slots in `lost`.
 
-use super::acceptance::{analyse_by, well_formed_but};
-use super::intervals::{Layout, Row, INTERVALS};
+use super::acceptance::{analyse_by, well_formed_but, Analysis};
+use super::intervals::{Ends, Layout, Row, INTERVALS};
 use super::plan::{Job, Plan, Refusal, JOBS};
 use super::rules::Rules;
 
@@ -75,6 +75,8 @@ pub struct Run {
     pub entry: [Entry; JOBS],
     pub hi: Row,
     pub lo: Row,
+    pub hi_end: Ends,
+    pub lo_end: Ends,
 }
 
 /// What a slot is used for.
@@ -114,6 +116,8 @@ impl Run {
         entry: [Entry::BLANK; JOBS],
         hi: [0; INTERVALS],
         lo: [0; INTERVALS],
+        hi_end: [0; INTERVALS],
+        lo_end: [0; INTERVALS],
     };
 
     /// A new run of an accepted plan, by the rules that the product has.
@@ -123,8 +127,8 @@ impl Run {
 
     /// A new run of an accepted plan.
     pub fn start_by(rules: Rules, plan: &Plan) -> Result<Run, Refusal> {
-        let analysis = analyse_by(rules, plan)?;
-        Ok(Run { rules, plan: plan.clone(), hi: analysis.hi, lo: analysis.lo, ..Run::BLANK })
+        let Analysis { hi, lo, hi_end, lo_end, .. } = analyse_by(rules, plan)?;
+        Ok(Run { rules, plan: plan.clone(), hi, lo, hi_end, lo_end, ..Run::BLANK })
     }
 
     pub fn coherent(&self) -> bool {
@@ -144,7 +148,7 @@ impl Run {
             return Err(Refusal::Incoherent);
         }
         let layout = Layout::of(&self.plan);
-        if self.fresh_rows(&layout) != (self.hi, self.lo) {
+        if self.fresh_rows(&layout) != (self.hi, self.lo, self.hi_end, self.lo_end) {
             return Err(Refusal::Incoherent);
         }
         Ok(layout)
@@ -159,8 +163,8 @@ impl Run {
         self.plan.planned().iter().zip(&self.entry).enumerate().map(|(k, (job, entry))| (k, job, entry))
     }
 
-    /// Both spare rows at border t; all 0 at t = N.
-    pub fn fresh_rows(&self, layout: &Layout) -> (Row, Row) {
+    /// Both spare rows at border t with their ends; all 0 at t = N.
+    fn fresh_rows(&self, layout: &Layout) -> (Row, Row, Ends, Ends) {
         let (mut hi, mut lo) = ([0; INTERVALS], [0; INTERVALS]);
         for (k, job, entry) in self.jobs().filter(|(_, _, entry)| entry.is_live()) {
             let home = layout.home(k);
@@ -169,13 +173,24 @@ impl Run {
             }
             lo[home] += i32::from(job.lo.saturating_sub(entry.given));
         }
-        (layout.spares(self.t, &hi), layout.spares(self.t, &lo))
+        let ends = |needed| layout.ends(self.rules, self.t, needed);
+        (layout.spares(self.t, &hi), layout.spares(self.t, &lo), ends(&hi), ends(&lo))
+    }
+
+    pub fn refresh(&mut self, layout: &Layout) {
+        (self.hi, self.lo, self.hi_end, self.lo_end) = self.fresh_rows(layout);
     }
 
     /// The spares of the current interval, HI then LO. Both are 0 when the run is over.
     pub fn current_spares(&self, layout: &Layout) -> (i32, i32) {
         let current = layout.past(self.t).min(INTERVALS - 1);
         (self.hi[current], self.lo[current])
+    }
+
+    /// The ends that make the current spares, HI then LO, in a coherent record.
+    pub fn current_ends(&self) -> (u16, u16) {
+        let current = Layout::of(&self.plan).past(self.t).min(INTERVALS - 1);
+        (self.hi_end[current], self.lo_end[current])
     }
 
     /// What the next slot is for, or 10 or 11.
@@ -248,7 +263,7 @@ impl Run {
         }
         self.expire();
         self.phase = self.next_phase(slot);
-        (self.hi, self.lo) = self.fresh_rows(&layout);
+        self.refresh(&layout);
         Ok((slot, spares))
     }
 

@@ -21,6 +21,11 @@ impl<'a> Lines<'a> {
         self.at == self.text.len()
     }
 
+    /// Whether the next line begins with `key`.
+    pub fn next_is(&self, key: &[u8]) -> bool {
+        self.text[self.at..].starts_with(key)
+    }
+
     /// The refusal of the line that stands next.
     pub fn bad(&self) -> Refusal {
         Refusal::Form { line: self.line }

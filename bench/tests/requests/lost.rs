@@ -5,10 +5,6 @@ use bench::random::{plan_record, run_record};
 
 const RULES: Rules = Rules { missed: true, ..Rules::BASE };
 
-fn plan_a() -> Plan {
-    plan(8, &[job(Level::Hi, 0, 8, 2, 4), job(Level::Lo, 0, 4, 2, 2)], &[2, 1, 2, 1, 0, 0, 0, 0])
-}
-
 #[test]
 fn plan_a_can_lose_four_slots_and_no_more() {
     let mut run = Run::start_by(RULES, &plan_a()).unwrap();

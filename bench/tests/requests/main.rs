@@ -2,7 +2,9 @@
 
 mod chopped;
 mod dead_slot;
+mod ends;
 mod firm;
+mod judge;
 mod lost;
 
 use bench::model::*;
@@ -19,6 +21,10 @@ fn plan(slots: u16, jobs: &[Job], table: &[u16]) -> Plan {
     plan.job[..jobs.len()].copy_from_slice(jobs);
     plan.table[..table.len()].copy_from_slice(table);
     plan
+}
+
+fn plan_a() -> Plan {
+    plan(8, &[job(Level::Hi, 0, 8, 2, 4), job(Level::Lo, 0, 4, 2, 2)], &[2, 1, 2, 1, 0, 0, 0, 0])
 }
 
 fn plan_c() -> Plan {
