@@ -64,66 +64,31 @@ impl PartialEq for Plan {
     }
 }
 
-/// The refusals, each with its place or places.
+/// The refusals, each with its place or places. `SpareBy` is `Spare` with the HI deadline that makes it (K4).
 #[derive(Clone, Copy, Debug, PartialEq, Eq)]
 pub enum Refusal {
-    Form {
-        line: usize,
-    },
+    Form { line: usize },
     SlotLimit,
     JobLimit,
-    Window {
-        job: usize,
-    },
-    Budget {
-        job: usize,
-    },
-    Table {
-        slot: usize,
-    },
-    Count {
-        job: usize,
-    },
-    Overload {
-        from: u16,
-        to: u16,
-    },
-    Spare {
-        border: usize,
-    },
-    /// The same with the HI deadline that makes it (K4).
-    SpareBy {
-        border: usize,
-        end: u16,
-    },
+    Window { job: usize },
+    Budget { job: usize },
+    Table { slot: usize },
+    Count { job: usize },
+    Overload { from: u16, to: u16 },
+    Spare { border: usize },
+    SpareBy { border: usize, end: u16 },
     Incoherent,
-    Over {
-        t: u16,
-    },
-    WrongSlot {
-        t: u16,
-    },
-    WrongKind {
-        t: u16,
-    },
-    Room {
-        needed: usize,
-    },
-    Chopped {
-        job: usize,
-    },
-    Loss {
-        t: u16,
-    },
-    Request {
-        t: u16,
-    },
-    NoNumber {
-        t: u16,
-    },
-    TooFew {
-        open: usize,
-    },
+    Over { t: u16 },
+    WrongSlot { t: u16 },
+    WrongKind { t: u16 },
+    Room { needed: usize },
+    Task { task: usize },
+    TooMany { jobs: usize },
+    Chopped { job: usize },
+    Loss { t: u16 },
+    Request { t: u16 },
+    NoNumber { t: u16 },
+    TooFew { open: usize },
 }
 
 impl Refusal {
@@ -144,6 +109,8 @@ impl Refusal {
             Refusal::WrongSlot { .. } => 12,
             Refusal::WrongKind { .. } => 13,
             Refusal::Room { .. } => 14,
+            Refusal::Task { .. } => 15,
+            Refusal::TooMany { .. } => 16,
             Refusal::Chopped { .. } => 17,
             Refusal::Loss { .. } => 18,
             Refusal::Request { .. } => 19,
@@ -169,6 +136,8 @@ impl Refusal {
             Refusal::Room { needed } => (needed, None),
             Refusal::Loss { t } | Refusal::Request { t } | Refusal::NoNumber { t } => (usize::from(t), None),
             Refusal::TooFew { open } => (open, None),
+            Refusal::Task { task } => (task, None),
+            Refusal::TooMany { jobs } => (jobs, None),
         }
     }
 }

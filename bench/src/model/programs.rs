@@ -84,6 +84,10 @@ fn ask_line(lines: &mut Lines, run: &mut Run, out: &mut Vec<u8>) -> Result<(), R
 }
 
 /// K8: what the judge prints for a plan, its reports and calls, a line `log=` and another maker's log of them.
+pub fn judge_output(input: &[u8]) -> Vec<u8> {
+    judge_output_by(Rules::LANDED, input)
+}
+
 pub fn judge_output_by(rules: Rules, input: &[u8]) -> Vec<u8> {
     let mut out = Vec::new();
     match parted(input) {
@@ -155,7 +159,7 @@ fn print_analysis(out: &mut Vec<u8>, rules: Rules, analysis: &Analysis) {
     print_line!(out, "answer=0");
 }
 
-fn print_refusal(out: &mut Vec<u8>, refusal: Refusal) {
+pub fn print_refusal(out: &mut Vec<u8>, refusal: Refusal) {
     let number = refusal.number();
     match refusal.places() {
         (place, None) => print_line!(out, "refused={number},{place}"),

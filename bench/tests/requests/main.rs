@@ -6,6 +6,7 @@ mod ends;
 mod firm;
 mod judge;
 mod lost;
+mod sheets;
 
 use bench::model::*;
 use bench::random::Rng;
