@@ -1,7 +1,7 @@
 //! K8: lost slots and firm requests among the reports, and the judge of another maker's log.
 
 use super::*;
-use bench::random::{input, plan_text};
+use bench::random::{input, input_by, plan_text};
 
 const RULES: Rules = Rules { missed: true, calls: true, ..Rules::BASE };
 
@@ -104,4 +104,22 @@ fn it_accepts_exactly_what_the_run_program_prints() {
         let expected = format!("differs={}\n{}\n", line + 1, lines[line]);
         assert_eq!(judged(&text, &String::from_utf8(bytes).unwrap()), expected);
     }
+}
+
+#[test]
+fn random_inputs_have_calls_and_their_refusals() {
+    let mut rng = Rng::new(88);
+    let (mut refused, mut took, mut lost) = ([0; 32], 0, [0; 2]);
+    for _ in 0..4000 {
+        let output = run(&input_by(RULES, &mut rng).run);
+        took += output.matches("took=").count();
+        lost[0] += output.lines().filter(|line| line.starts_with("lost=") && line.ends_with("no")).count();
+        lost[1] += output.lines().filter(|line| line.starts_with("lost=") && line.ends_with("yes")).count();
+        if let Some((_, rest)) = output.split_once("refused=") {
+            let number: usize = rest.split(',').next().unwrap().parse().unwrap();
+            refused[number] += 1;
+        }
+    }
+    let seen = [1, 11, 12, 13, 18, 19, 21].iter().all(|&number: &usize| refused[number] > 10) && refused[20] > 0;
+    assert!(seen && took > 1000 && lost[0] > 100 && lost[1] > 100, "{refused:?} {took} {lost:?}");
 }
