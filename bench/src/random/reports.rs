@@ -1,5 +1,5 @@
-//! Report lines: most follow the run as the model has it, some leave it at a border, some never fit. Lost slots and firm
-//! requests stand among them where the rules have such lines.
+//! Report lines: most follow the run as the model has it, some leave it at a border, some never fit. Lost slots and
+//! firm requests stand among them where the rules have such lines.
 
 use super::Rng;
 use crate::model::{Kind, Plan, Report, Rules, Run, Slot};
