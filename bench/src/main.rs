@@ -5,13 +5,15 @@ use std::path::{Path, PathBuf};
 use std::process::ExitCode;
 
 use bench::compare::{self, Programs};
-use bench::model::{check_output, run_output};
+use bench::model::{check_output, expand_output, judge_output, run_output};
 use bench::pieces;
 use bench::random::{input, Mix, Rng};
 use bench::speed;
 
 const USAGE: &str = "bench check                the model's check output for standard input
 bench run                  the model's run output for standard input
+bench expand               the model's plan text for a task sheet on standard input
+bench judge                the model's verdict on a plan, its reports and a log on standard input
 bench mix SEED COUNT       what COUNT random inputs are made of
 bench compare SEED COUNT   the linked product against the model (feature `product`)
 bench programs SEED COUNT  target/bin/check_plan and run_plan against the model, then 300 runs in pieces
@@ -27,6 +29,8 @@ fn main() -> ExitCode {
     match words[..] {
         ["check"] => filter(check_output),
         ["run"] => filter(run_output),
+        ["expand"] => filter(expand_output),
+        ["judge"] => filter(judge_output),
         ["mix", seed, count] => with_numbers(seed, count, mix),
         ["compare", seed, count] => with_numbers(seed, count, product::compare),
         ["programs", seed, count] => with_numbers(seed, count, programs),

@@ -56,7 +56,7 @@ fn a_text_read_and_a_record_written() {
 #[test]
 fn the_analysis_of_any_record() {
     let mut rng = Rng::new(23);
-    let mut seen = [0; 15];
+    let mut seen = [0; 32];
     for _ in 0..2 * TIMES {
         let plan = plan_record(&mut rng);
         let mut layout = Layout::EMPTY;
@@ -78,7 +78,7 @@ fn the_analysis_of_any_record() {
 #[test]
 fn a_step_from_any_record() {
     let mut rng = Rng::new(24);
-    let mut seen = [0; 15];
+    let mut seen = [0; 32];
     for _ in 0..2 * TIMES {
         let (before, report) = run_record(&mut rng);
         let (mut plain, mut tight) = (before.clone(), before);

@@ -1,7 +1,7 @@
 //! The checks 2 to 9 and the analysis.
 
 use super::intervals::{Layout, Rows};
-use crate::model::{Job, Plan, Refusal, Row, JOBS, SLOTS};
+use crate::model::{Job, Plan, Refusal, Row, Rules, JOBS, SLOTS};
 
 /// A number for each job, the job's number as the index; place 0 takes the idle slots.
 pub type Counts = [u16; JOBS + 1];
@@ -46,9 +46,26 @@ pub fn well_formed(plan: &Plan, t: u16) -> Result<Counts, Refusal> {
     count_inside(before, 0, windows, &mut counts)?;
     let before = counts;
     count_inside(from_t, t, windows, &mut counts)?;
-    match jobs.iter().zip(&counts[1..]).position(|(job, &count)| job.lo != count) {
-        Some(k) => Err(Refusal::Count { job: k + 1 }),
-        None => Ok(before),
+    if let Some(k) = jobs.iter().zip(&counts[1..]).position(|(job, &count)| job.lo != count) {
+        return Err(Refusal::Count { job: k + 1 });
+    }
+    if Rules::LANDED.chopped {
+        not_chopped(plan)?;
+    }
+    Ok(before)
+}
+
+/// Check 17: no job has more than four rows of adjoining slots.
+fn not_chopped(plan: &Plan) -> Result<(), Refusal> {
+    let mut runs = [0; JOBS + 1];
+    let mut before = 0;
+    for &number in plan.row() {
+        runs[usize::from(number)] += u16::from(number != before);
+        before = number;
+    }
+    match runs[1..=plan.planned().len()].iter().position(|&runs| runs > 4) {
+        Some(k) => Err(Refusal::Chopped { job: k + 1 }),
+        None => Ok(()),
     }
 }
 

@@ -85,6 +85,7 @@ fn print_jobs(out: &mut Out, run: &Run) {
             Standing::Finished(_) => b",F,",
             Standing::Cut(_) => b",C,",
             Standing::Dropped(_) => b",D,",
+            Standing::Missed(_) => b",M,",
         });
         out.number(entry.given.into());
         out.byte(b'\n');

@@ -3,7 +3,7 @@
 
 use super::acceptance::{analyse, well_formed, Counts};
 use super::intervals::{Layout, Rows};
-use crate::model::{Entry, Job, Kind, Phase, Refusal, Report, Run, Slot, Standing, JOBS};
+use crate::model::{Entry, Job, Kind, Phase, Refusal, Report, Rules, Run, Slot, Standing, JOBS};
 
 /// Makes a blank run that holds a plan into a new run of it.
 pub fn start(run: &mut Run) -> Result<(), Refusal> {
@@ -32,9 +32,9 @@ fn needs(job: &Job, entry: &Entry) -> (i32, i32) {
 
 /// The clauses of coherence that speak of one job.
 fn entry_holds(job: &Job, entry: &Entry, t: u16) -> bool {
-    match entry.standing {
-        Standing::Waiting => entry.given < job.hi,
-        Standing::Finished(end) | Standing::Cut(end) | Standing::Dropped(end) => entry.given <= job.hi && end <= t,
+    match entry.standing.end() {
+        None => entry.given < job.hi,
+        Some(end) => entry.given <= job.hi && end <= t,
     }
 }
 
@@ -86,7 +86,7 @@ pub fn step(run: &mut Run, report: Report) -> Result<(Slot, (i32, i32)), Refusal
     if let Slot::Job(number) = slot {
         apply(run, &mut work, usize::from(number) - 1, report.kind);
     }
-    drop_late(run, &mut work);
+    expire(run, &mut work);
     run.phase = next_phase(run, &work, slot);
     work.layout.spares(run.t, &work.needed, &mut run.hi, &mut run.lo);
     Ok((slot, spares))
@@ -101,8 +101,14 @@ fn choice(run: &Run, work: &Work, spares: (i32, i32)) -> Slot {
             }
             work.ready
         }
-        Phase::H if spares.0 > 0 && spares.1 >= 0 => work.ready,
-        Phase::H => members(work.ready).filter(|&k| run.plan.job[k].is_hi()).fold(0, |set, k| set | 1 << k),
+        Phase::H => {
+            let high = members(work.ready).filter(|&k| run.plan.job[k].is_hi()).fold(0, |set, k| set | 1 << k);
+            match spares {
+                (1.., 0..) => work.ready,
+                (1.., _) if Rules::LANDED.dead_slot && high == 0 => work.ready,
+                _ => high,
+            }
+        }
     };
     match members(candidates).min_by_key(|&k| (run.plan.job[k].deadline, run.plan.job[k].level)) {
         Some(k) => Slot::Job(k as u16 + 1),
@@ -141,15 +147,15 @@ fn apply(run: &mut Run, work: &mut Work, k: usize, kind: Kind) {
         _ if given == run.plan.job[k].hi => Standing::Cut(run.t),
         _ => Standing::Waiting,
     };
-    change(run, work, k, Entry { standing, given });
+    change(run, work, k, Entry { standing, given, ..run.entry[k] });
 }
 
-fn drop_late(run: &mut Run, work: &mut Work) {
+fn expire(run: &mut Run, work: &mut Work) {
     for k in members(work.live) {
         let job = &run.plan.job[k];
-        if job.deadline <= run.t && !job.is_hi() {
-            let entry = Entry { standing: Standing::Dropped(run.t), ..run.entry[k] };
-            change(run, work, k, entry);
+        if job.deadline <= run.t && (!job.is_hi() || Rules::LANDED.missed) {
+            let standing = if job.is_hi() { Standing::Missed(run.t) } else { Standing::Dropped(run.t) };
+            change(run, work, k, Entry { standing, ..run.entry[k] });
         }
     }
 }
