@@ -135,11 +135,11 @@ progress-rest c left (piece ∷ pieces) =
     record {
       done = here .done ++ r .done;
       whole =
-        append-assoc (here .done) (r .done) _
-        ∙ ap (λ (t : List ℕ). here .done ++ t) (r .whole)
-        ∙ sym (append-assoc (here .done) (now .left) (together pieces))
-        ∙ ap (λ (t : List ℕ). t ++ together pieces) (here .whole)
-        ∙ append-assoc left piece (together pieces);
+          append-assoc (here .done) (r .done) _
+          ∙ ap (λ (t : List ℕ). here .done ++ t) (r .whole)
+          ∙ sym (append-assoc (here .done) (now .left) (together pieces))
+          ∙ ap (λ (t : List ℕ). t ++ together pieces) (here .whole)
+          ∙ append-assoc left piece (together pieces);
     }
 
 -- ---- after a refusal

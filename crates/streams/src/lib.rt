@@ -1,7 +1,7 @@
 // Standard input and output as every program uses them: nothing that came is lost, and what is printed has no hole.
 // A call that a signal interrupted is made again; where no input is there yet, or no room for output, the program waits.
 // Any other failure is said in one line on standard error. What the bytes mean is not here.
-ghost use Prim.Native.Nat.{_+_, _≤_};
+ghost use Prim.Native.Nat.{_≤_};
 ghost use mathlib.Core.Path.{_≡_};
 ghost use lib.ListN.{length};
 ghost use Rattle.streams.specs.Streams.{ReadAfter, TriedRead, MovedIn, NoneMoved, broughtBy, faultOf};
