@@ -14,7 +14,6 @@ use Rattle.plan.specs.Limits.{maxJobs}
 use Rattle.plan_text.specs.declared.reader.PlanPrefix.{PlanPrefix}
 use Rattle.plan_text.specs.Reader.{planPrefix}
 use Rattle.plan_text.specs.DecidedLaws.{isFinal}
-use Rattle.executive.specs.declared.Run.{Run}
 use Rattle.executive.specs.declared.Started.{Started}
 use Rattle.executive.specs.declared.Stepped.{Stepped}
 use Rattle.executive.specs.Run.{blankRun, start}

@@ -6,18 +6,13 @@ use mathlib.Core.Path.{_≡_, refl, sym, _∙_}
 use mathlib.Core.Bool.{Bool, true, false, _||_, false≢true}
 use mathlib.Core.List.{List}
 use lib.ListN.{length}
-use borrow.Author.Tests.{lt-ltb, le-ltb, le-leb}
+use borrow.Author.Tests.{le-leb}
 use Rattle.words.specs.Cases.{by-test, by-less}
 use Rattle.lines.specs.Lines.{lineLength}
 use Rattle.words.specs.Words.{_<?_}
 use Rattle.answers.specs.Answer.{accepted}
 use Rattle.plan_text.specs.Reader.{planPrefix}
-use Rattle.plan_text.specs.PrefixLaws.{prefix-stands}
-use Rattle.plan_text.specs.DecidedLaws.{enough, plan-decided, isFinal, open-short}
-use Rattle.acceptance.specs.Acceptance.{acceptance}
-use Rattle.executive.specs.declared.Report.{Report}
-use Rattle.executive.specs.Run.{start}
-use Rattle.executive.specs.Step.{step}
+use Rattle.plan_text.specs.DecidedLaws.{enough, isFinal, open-short}
 use Rattle.console.specs.declared.run.Stage.{Stage}
 use Rattle.console.specs.declared.run.Stage.the-variants.{Reading, Running, Stopped}
 use Rattle.console.specs.declared.run.Console.{Console}

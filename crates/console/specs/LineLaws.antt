@@ -3,9 +3,9 @@ use Prim.Native.Nat.{ℕ, zero, suc, _+_, _*_, _≤_, _<_}
 use Prim.Native.String.{String}
 use native.Mathlib.Nat.{suc-mul}
 use native.Mathlib.Omega.{arith}
-use mathlib.Core.Path.{_≡_, refl, sym, ap, _∙_}
+use mathlib.Core.Path.{_≡_, refl, sym, ap}
 use mathlib.Core.Bool.{true}
-use mathlib.Core.List.{List, [], _∷_, _++_}
+use mathlib.Core.List.{List, [], _∷_}
 use mathlib.Core.Option.{Option, none, some}
 use lib.ListN.{length, take, drop, length-drop, length-take}
 use borrow.Author.Tests.{leb-true, leb-false}
@@ -14,7 +14,7 @@ use Rattle.words.specs.Cases.{by-test}
 use Rattle.answers.specs.declared.Answer.{Answer}
 use Rattle.answers.specs.declared.Answer.the-variants.{SlotLimit, JobLimit}
 use Rattle.answers.specs.Answer.{accepted, _unless_}
-use Rattle.lines.specs.Lines.{bytes, number, Cursor, Read, got, refused, Reader, give, onward, _>>=_, must, many, lineLength, valueIn, orForm, field}
+use Rattle.lines.specs.Lines.{bytes, number, Cursor, got, Reader, give, _>>=_, must, many, valueIn, orForm, field}
 use Rattle.lines.specs.RoundLaws.{cursor, unread, got-same, onward-back, must-back}
 use Rattle.lines.specs.ReadingLaws.{number-long, same-length}
 use Rattle.lines.specs.DecidedLaws.{Decided, field-decided}
@@ -23,7 +23,6 @@ use Rattle.plan.specs.Limits.{maxSlots, maxJobs, oneTo}
 use Rattle.plan_text.specs.PrefixLaws.{keeps-limit}
 use Rattle.plan_text.specs.Read.{levelIn, nextJob, nextPlan, startOf}
 use Rattle.entries.specs.declared.Kind.{Kind}
-use Rattle.executive.specs.declared.Report.{Report}
 use Rattle.console.specs.Run.{kindIn, beforeComma, report, reportIn}
 use Rattle.console.specs.Reports.{comma-within}
 

@@ -8,21 +8,21 @@ use mathlib.Core.List.{List, [], _∷_, _++_, append-nil, append-assoc}
 use mathlib.Core.Option.{Option, none, some}
 use mathlib.Core.Logic.{_⊎_, inl, inr, ⊎-elim}
 use lib.ListN.{length, drop, length-append, length-drop}
-use borrow.Author.Tests.{lt-ltb, le-ltb, ltb-true, ltb-false, leb-true, leb-false, eq-eqb, ne-eqb}
-use Rattle.words.specs.Words.{if_then_else_, _≤?_, _<?_, _=?_}
-use Rattle.words.specs.Cases.{by-test, by-less, by-equal, both-hold}
+use borrow.Author.Tests.{lt-ltb, ltb-true, leb-true, eq-eqb, ne-eqb}
+use Rattle.words.specs.Words.{_≤?_, _<?_}
+use Rattle.words.specs.Cases.{by-test, by-equal, both-hold}
 use Rattle.answers.specs.declared.Answer.{Answer}
-use Rattle.answers.specs.declared.Answer.the-variants.{Accepted, Form, Incoherent, Over}
-use Rattle.answers.specs.Answer.{accepted, _unless_, _andThen_}
+use Rattle.answers.specs.declared.Answer.the-variants.{Form, Incoherent, Over}
+use Rattle.answers.specs.Answer.{accepted, _unless_}
 use Rattle.answers.specs.RefusalLaws.{unless-holds, both-accept}
-use Rattle.lines.specs.Lines.{bytes, number, Cursor, Read, got, refused, lineLength, linesIn, lineOn, orForm, valueIn, field}
+use Rattle.lines.specs.Lines.{bytes, Cursor, Read, got, refused, lineLength, linesIn, orForm, valueIn, field}
 use Rattle.lines.specs.RoundLaws.{cursor, unread, got-same}
 use Rattle.lines.specs.DecidedLaws.{lines-closed}
 use Rattle.plan.specs.declared.Plan.{Plan}
-use Rattle.plan_text.specs.Read.{nextPlan, startOf, readPlan}
+use Rattle.plan_text.specs.Read.{nextPlan, startOf}
 use Rattle.plan_text.specs.Reader.{planPrefix}
-use Rattle.plan_text.specs.PrefixLaws.{prefix-stands, prefix-refused, keeps-limit}
-use Rattle.plan_text.specs.DecidedLaws.{enough, plan-goes, plan-stays, text-stays, isFinal, final-stays}
+use Rattle.plan_text.specs.PrefixLaws.{prefix-stands, prefix-refused}
+use Rattle.plan_text.specs.DecidedLaws.{enough, plan-goes, text-stays, isFinal, final-stays}
 use Rattle.well_formed.specs.WellFormed.{wellFormed}
 use Rattle.well_formed.specs.InOrderLaws.{slot-limit}
 use Rattle.executive.specs.declared.Run.{Run}
@@ -38,10 +38,10 @@ use Rattle.console.specs.declared.reports.ReportAt.{ReportAt}
 use Rattle.console.specs.declared.reports.ReportAt.the-variants as ReportAt
 use Rattle.console.specs.Print.{refusedLine}
 use Rattle.console.specs.Check.{checkOutput}
-use Rattle.console.specs.Run.{reportIn, Reports, end, bad, next, reportThen, reportsIn, stepLine, jobLines, goOn, startedOutput, planOutput, runOutput}
+use Rattle.console.specs.Run.{reportIn, end, next, reportThen, reportsIn, stepLine, jobLines, goOn, startedOutput, runOutput}
 use Rattle.console.specs.Reports.{reportAt, report-got, report-bad}
 use Rattle.console.specs.LineLaws.{plan-line, report-decided}
-use Rattle.console.specs.Console.{freshConsole, stopped, Event, waits, refuses, startedEvent, prefixEvent, planEvent, longestReport, lineReady, lineAfter, steppedEvent, reportEvent, lineEvent, eventIn, event, unreadOutput, endIn, endOutput, Settled, after, settled, session}
+use Rattle.console.specs.Console.{freshConsole, Event, waits, refuses, startedEvent, planEvent, longestReport, lineReady, lineAfter, reportEvent, lineEvent, eventIn, event, unreadOutput, endIn, endOutput, Settled, after, settled, session}
 
 -- ---- the check program: what follows enough bytes and one more does not matter
 

@@ -1,14 +1,14 @@
 -- What the console's functions answer: the event, written into the lent output; the spares of a run by place; and their laws.
-use Prim.Native.Nat.{ℕ, zero, suc, _+_, _*_, _≤_, _<_}
+use Prim.Native.Nat.{ℕ, _+_, _≤_, _<_}
 use native.Mathlib.Omega.{arith}
 use mathlib.Core.Path.{_≡_, refl, sym, ap, _∙_}
-use mathlib.Core.Bool.{Bool, true, false, not, _||_}
-use mathlib.Core.List.{List, [], _∷_, _++_}
+use mathlib.Core.Bool.{Bool, true, false, not}
+use mathlib.Core.List.{List, []}
 use lib.IntN.{ℤ, pos}
-use lib.ListN.{length, getD, take, drop}
+use lib.ListN.{length, getD, drop}
 use borrow.Author.Tests.{not-true, not-false, lt-ltb, le-ltb, le-leb, lt-leb, eq-eqb, ne-eqb}
-use Rattle.words.specs.Words.{if_then_else_, _≤?_, _<?_, _=?_}
-use Rattle.words.specs.Cases.{by-test, by-less}
+use Rattle.words.specs.Words.{_≤?_}
+use Rattle.words.specs.Cases.{by-test}
 use Rattle.answers.specs.declared.Answer.{Answer}
 use Rattle.answers.specs.declared.Answer.the-variants.{Form}
 use Rattle.answers.specs.Answer.{accepted, firstPlace}
@@ -31,7 +31,7 @@ use Rattle.executive.specs.declared.Started.{Started}
 use Rattle.executive.specs.declared.Stepped.{Stepped}
 use Rattle.executive.specs.Choice.{chosen, canGoOn, choose}
 use Rattle.executive.specs.Step.{step}
-use Rattle.executive.specs.Run.{start, currentHi, currentLo}
+use Rattle.executive.specs.Run.{start}
 use Rattle.console.specs.declared.run.Stage.{Stage}
 use Rattle.console.specs.declared.run.Stage.the-variants.{Reading, Running, Stopped}
 use Rattle.console.specs.declared.run.Console.{Console}
@@ -44,7 +44,7 @@ use Rattle.console.specs.Reports.{reportAt, report-within}
 use Rattle.console.specs.Pieces.{Piece, CountsIn, counts-in, piece-counts}
 use Rattle.console.specs.Printed.{stepLineOf}
 use Rattle.console.specs.SessionLaws.{step-goes}
-use Rattle.console.specs.Console.{Event, waits, refuses, startedEvent, prefixEvent, planEvent, lineReady, longestReport, lineAfter, steppedEvent, reportEvent, lineEvent, eventIn, event, unreadOutput, endIn, endOutput, runRoom, turnOf, nextTurn, nextOut, endLength, endWritten}
+use Rattle.console.specs.Console.{Event, waits, refuses, startedEvent, planEvent, lineReady, longestReport, lineAfter, steppedEvent, reportEvent, lineEvent, eventIn, event, unreadOutput, endIn, endOutput, runRoom, turnOf, nextTurn, nextOut, endLength, endWritten}
 
 -- the turn is the event's, and what it prints stands at the start of the output
 pub record Told (e : Event) (d : List ℕ) (r : Turn) (d′ : List ℕ) : Type 0 where

@@ -1,15 +1,14 @@
 // The run program's console: a value that is handed the input piece by piece and says what is printed. Reading and writing are in run_plan.
 ghost use mathlib.Core.Path.{_≡_};
 ghost use mathlib.Core.Bool.{true};
-ghost use Prim.Native.Nat.{_+_, _*_, _≤_, min};
+ghost use Prim.Native.Nat.{_+_, _≤_, min};
 ghost use lib.IntN.{pos};
-ghost use lib.ListN.{length, getD, take};
+ghost use lib.ListN.{length, getD};
 ghost use Rattle.answers.specs.Answer.{accepted};
 ghost use Rattle.plan.specs.Limits.{maxJobs};
 ghost use Rattle.executive.specs.Choice.{canGoOn};
 ghost use Rattle.executive.specs.Run.{start};
 ghost use Rattle.executive.specs.Step.{step};
-ghost use Rattle.console.specs.Print.{refusedLine};
 ghost use Rattle.console.specs.Run.{jobNumber, stepLine, jobLines};
 ghost use Rattle.console.specs.Pieces.{Piece, longest, CountsIn};
 ghost use Rattle.console.specs.Console.{freshConsole, waits, refuses, startedEvent, planEvent, lineReady, lineAfter, steppedEvent, lineEvent, unreadOutput, endIn, isStopped, runRoom, turnOf, nextTurn, nextOut, endLength, endWritten};

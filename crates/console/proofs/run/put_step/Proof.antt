@@ -1,8 +1,6 @@
 -- `run::put_step` meets its promise: the choice and the current spares by place are those of the definition.
 use borrow.Author.Needs.{needs}
-use native.Mathlib.Omega.{arith}
-use mathlib.Core.Path.{refl, sym, _∙_}
-use borrow.Author.Tests.{not-true, not-false}
+use mathlib.Core.Path.{_∙_}
 use mir.Facts.{toZ-ofZ}
 use mir.Syntax.{w32}
 use Rattle.console.specs.Pieces.{piece-is}

@@ -1,8 +1,6 @@
 -- `run::take_plan` meets its promise: the plan that is there, the wait for more of it, or its refusal.
 use borrow.Author.Needs.{needs}
-use native.Mathlib.Omega.{arith}
 use mathlib.Core.Path.{refl, sym, _∙_}
-use borrow.Author.Tests.{not-true, not-false}
 use Rattle.console.specs.Turns.{told-is, told-quiet, plan-begins, plan-waits, plan-refused}
 use Rattle.console.proofs.run.take_plan.Statement.{statement}
 use Rattle.console.proofs.run.take_plan.Tie as tie
