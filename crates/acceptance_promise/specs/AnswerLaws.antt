@@ -12,8 +12,10 @@ use Rattle.answers.specs.RefusalLaws.{both-accept}
 use Rattle.plan.specs.declared.Plan.{Plan}
 use Rattle.plan.specs.Plan.{slotsOf}
 use Rattle.intervals.specs.Spares.{row, current}
-use Rattle.acceptance.specs.Acceptance.{wellFormed, check8, alongTable, check9, acceptance}
+use Rattle.acceptance.specs.Acceptance.{alongTable, check9, acceptance}
 use Rattle.acceptance.specs.Analysis.{analysis}
+use Rattle.well_formed.specs.WellFormed.{wellFormed}
+use Rattle.window_sums.specs.WindowSums.{check8}
 
 -- the answer that accepts is accepted
 pub is-accepted : (a : Answer) → a ≡ Accepted → accepted a ≡ true

@@ -17,13 +17,16 @@ use Rattle.plan.specs.Limits.{maxSlots, maxJobs}
 use Rattle.plan.specs.Plan.{jobsOf, slotsOf, blankJob, countsAt}
 use Rattle.plan.specs.CountLaws.{counts-at, counts-length}
 use Rattle.intervals.specs.Spares.{hiLeft, row, current}
-use Rattle.acceptance.specs.Acceptance.{wellFormed, check8, alongTable, check9, acceptance}
-use Rattle.acceptance_promise.specs.Promise.{jobAt, windowsOf, tab, InOrder, hiOf, asked, A1, A2}
+use Rattle.well_formed.specs.WellFormed.{wellFormed}
+use Rattle.window_sums.specs.WindowSums.{check8}
+use Rattle.acceptance.specs.Acceptance.{alongTable, check9, acceptance}
+use Rattle.well_formed.specs.InOrder.{jobAt, tab, InOrder}
+use Rattle.spare_theory.specs.Promise.{windowsOf, hiOf, asked, A1, A2}
 use Rattle.words.specs.ZipLaws.{zip-at}
 use Rattle.answers.specs.RefusalLaws.{both-accept, one-refused, unless-holds, unless-fails, each-accepted, some-refused}
-use Rattle.acceptance_promise.specs.InOrderLaws.{in-order, among-jobs, jobs-length, slots-length}
-use Rattle.acceptance_promise.specs.TableLaws.{asked-due}
-use Rattle.acceptance_promise.specs.SpareLaws.{not-below-exactly, below-shows}
+use Rattle.well_formed.specs.InOrderLaws.{in-order, among-jobs, jobs-length, slots-length}
+use Rattle.spare_theory.specs.TableLaws.{asked-due}
+use Rattle.spare_theory.specs.SpareLaws.{not-below-exactly, below-shows}
 use Rattle.acceptance_promise.specs.Check8Laws.{a1-holds, a1-broken}
 
 module _ (p : Plan) (ok : InOrder p) where

@@ -11,14 +11,17 @@ use Rattle.windows.specs.Windows.{dueBy, within, InTime}
 use Rattle.plan.specs.declared.Plan.{Plan}
 use Rattle.intervals.specs.Intervals.{intervals}
 use Rattle.intervals.specs.Spares.{row, current}
-use Rattle.acceptance.specs.Acceptance.{wellFormed, check8, check9, acceptance}
-use Rattle.acceptance_promise.specs.Promise.{Sized, jobAt, windowsOf, InOrder, hiOf, asked, A1, A2}
-use Rattle.acceptance_promise.specs.Chain.{Quiet, Chain}
-use Rattle.acceptance_promise.specs.Spares.{currentEnd, Least}
-use Rattle.acceptance_promise.specs.InOrderLaws.{in-order}
-use Rattle.acceptance_promise.specs.ChainLaws.{intervals-chain}
-use Rattle.acceptance_promise.specs.SpareLaws.{spare-least, not-below-exactly, above-exactly}
-use Rattle.acceptance_promise.specs.TableLaws.{a1-of-a2}
+use Rattle.acceptance.specs.Acceptance.{check9, acceptance}
+use Rattle.well_formed.specs.WellFormed.{wellFormed}
+use Rattle.window_sums.specs.WindowSums.{check8}
+use Rattle.well_formed.specs.InOrder.{jobAt, InOrder, Sized}
+use Rattle.spare_theory.specs.Promise.{windowsOf, hiOf, asked, A1, A2}
+use Rattle.spare_theory.specs.Chain.{Quiet, Chain}
+use Rattle.spare_theory.specs.Spares.{Least, currentEnd}
+use Rattle.well_formed.specs.InOrderLaws.{in-order}
+use Rattle.spare_theory.specs.ChainLaws.{intervals-chain}
+use Rattle.spare_theory.specs.SpareLaws.{spare-least, not-below-exactly, above-exactly}
+use Rattle.spare_theory.specs.TableLaws.{a1-of-a2}
 use Rattle.acceptance_promise.specs.Check8Laws.{a1-exactly}
 use Rattle.acceptance_promise.specs.Check9Laws.{a2-exactly, accepted-promise, refused-promise}
 

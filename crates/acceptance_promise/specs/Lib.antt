@@ -1,16 +1,8 @@
-pub mod Promise
-pub mod Chain
-pub mod Spares
 pub mod OneSlot
 pub mod Plans
 pub mod Compute
 pub mod MemberLaws
-pub mod InOrderLaws
-pub mod CountLaws
-pub mod TableLaws
 pub mod AnswerLaws
-pub mod ChainLaws
-pub mod SpareLaws
 pub mod Check8Laws
 pub mod Check9Laws
 pub mod OneSlotLaws

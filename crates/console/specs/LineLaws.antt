@@ -22,7 +22,7 @@ use Rattle.plan.specs.declared.Plan.{Plan}
 use Rattle.plan.specs.Limits.{maxSlots, maxJobs, oneTo}
 use Rattle.plan_text.specs.PrefixLaws.{keeps-limit}
 use Rattle.plan_text.specs.Read.{levelIn, nextJob, nextPlan, startOf}
-use Rattle.executive.specs.declared.Kind.{Kind}
+use Rattle.entries.specs.declared.Kind.{Kind}
 use Rattle.executive.specs.declared.Report.{Report}
 use Rattle.console.specs.Run.{kindIn, beforeComma, report, reportIn}
 use Rattle.console.specs.Reports.{comma-within}

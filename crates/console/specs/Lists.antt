@@ -17,9 +17,9 @@ use Rattle.lines.specs.Writing.{put}
 use Rattle.intervals.specs.declared.Interval.{Interval}
 use Rattle.intervals.specs.Intervals.{maxIntervals}
 use Rattle.intervals.specs.Layout.{blankInterval}
-use Rattle.executive.specs.declared.Entry.{Entry}
+use Rattle.entries.specs.declared.Entry.{Entry}
 use Rattle.executive.specs.declared.Run.{Run}
-use Rattle.executive.specs.Run.{freshEntry}
+use Rattle.entries.specs.Entry.{freshEntry}
 use Rattle.answers.specs.Answer.{accepted}
 use Rattle.plan_text.specs.declared.PlanRead.{PlanRead}
 use Rattle.plan_text.specs.Read.{readPlan}
@@ -102,9 +102,9 @@ pub jobs-none : (k : ℕ) (es : List Entry) → jobLinesFrom k (take 0 es) ≡ [
 unfolding jobLinesFrom
 jobs-none k es = refl
 
-pub jobs-listed : (r : Run) (i : ℕ) → length (r .job) ≡ 32 → i ≡ min (r .plan .jobs) 32 → jobLinesFrom 1 (take i (r .job)) ≡ jobLines r
+pub jobs-listed : (r : Run) (i : ℕ) → length (r .entry) ≡ 32 → i ≡ min (r .plan .jobs) 32 → jobLinesFrom 1 (take i (r .entry)) ≡ jobLines r
 unfolding jobLines
-jobs-listed r i l e = ap (jobLinesFrom 1) (listed-all (r .plan .jobs) i 32 (r .job) l e)
+jobs-listed r i l e = ap (jobLinesFrom 1) (listed-all (r .plan .jobs) i 32 (r .entry) l e)
 
 -- ---- the analysis
 

@@ -10,7 +10,7 @@ use Rattle.answers.specs.declared.Answer.the-variants.{Accepted, Written, Form,
 use Rattle.answers.specs.Answer.{numberOf, placesOf}
 use Rattle.intervals.specs.declared.Interval.{Interval}
 use Rattle.executive.specs.declared.Phase.{Phase}
-use Rattle.executive.specs.declared.Entry.{Entry}
+use Rattle.entries.specs.declared.Entry.{Entry}
 use Rattle.lines.specs.Lines.{bytes, LF, comma, digits}
 use Rattle.console.specs.Print.{signed, commas, values, refusedLine}
 use Rattle.console.specs.Run.{phaseLetter, standingLetter}

@@ -13,8 +13,8 @@ use borrow.Author.Tests.{eq-eqb, ne-eqb}
 use Rattle.answers.specs.declared.Answer.the-variants.{Form}
 use Rattle.words.specs.Words.{if_then_else_, _=?_}
 use Rattle.words.specs.Cases.{by-test}
-use Rattle.executive.specs.declared.Kind.{Kind}
-use Rattle.executive.specs.declared.Kind.the-variants.{End, More, None}
+use Rattle.entries.specs.declared.Kind.{Kind}
+use Rattle.entries.specs.declared.Kind.the-variants.{End, More, None}
 use Rattle.executive.specs.declared.Report.{Report}
 use Rattle.lines.specs.declared.reading.ValueAt.the-variants.{At, Refused}
 use Rattle.lines.specs.declared.reading.Number.{Number}

@@ -9,15 +9,15 @@ use Rattle.words.specs.Words.{if_then_else_, _=?_}
 use Rattle.answers.specs.Answer.{accepted}
 use Rattle.lines.specs.Lines.{bytes, comma, digits, sameBytes, number, Cursor, Read, got, refused, field}
 use Rattle.plan_text.specs.Read.{nextPlan, startOf}
-use Rattle.executive.specs.declared.Standing.{Standing}
-use Rattle.executive.specs.declared.Standing.the-variants.{Waiting, Finished, Cut, Dropped}
-use Rattle.executive.specs.declared.Entry.{Entry}
+use Rattle.entries.specs.declared.Standing.{Standing}
+use Rattle.entries.specs.declared.Standing.the-variants.{Waiting, Finished, Cut, Dropped}
+use Rattle.entries.specs.declared.Entry.{Entry}
 use Rattle.executive.specs.declared.Phase.{Phase}
 use Rattle.executive.specs.declared.Phase.the-variants.{T, H}
 use Rattle.executive.specs.declared.Run.{Run}
-use Rattle.executive.specs.declared.Slot.{Slot}
-use Rattle.executive.specs.declared.Kind.{Kind}
-use Rattle.executive.specs.declared.Kind.the-variants.{End, More, None}
+use Rattle.ready.specs.declared.Slot.{Slot}
+use Rattle.entries.specs.declared.Kind.{Kind}
+use Rattle.entries.specs.declared.Kind.the-variants.{End, More, None}
 use Rattle.executive.specs.declared.Report.{Report}
 use Rattle.executive.specs.declared.Started.{Started}
 use Rattle.executive.specs.Run.{start, currentHi, currentLo}
@@ -93,7 +93,7 @@ jobLinesFrom k [] = []
 jobLinesFrom k (e ∷ es) = values "job=" (digits k ∷ standingLetter (e .standing) ∷ digits (e .given) ∷ []) ++ jobLinesFrom (suc k) es
 
 unfoldable pub jobLines : Run → List ℕ
-jobLines r = jobLinesFrom 1 (take (r .plan .jobs) (r .job))
+jobLines r = jobLinesFrom 1 (take (r .plan .jobs) (r .entry))
 
 -- ---- the program
 

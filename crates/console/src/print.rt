@@ -11,9 +11,9 @@ ghost use Rattle.console.specs.Run.{phaseLetter, standingLetter};
 ghost use Rattle.console.specs.Pieces.{Piece, longest};
 ghost use Rattle.console.specs.Printed.{intervalLine, stepLineOf, jobLine};
 use answers::Answer;
-use executive::Entry;
+use entries::Entry;
+use entries::Standing;
 use executive::Phase;
-use executive::Standing;
 use intervals::Interval;
 
 // The digits of n, where the output has room for them.

@@ -2,7 +2,7 @@
 ghost use mathlib.Core.Path.{_≡_};
 ghost use Rattle.console.specs.Run.{kindIn, beforeComma, reportIn};
 ghost use Rattle.console.specs.Reports.{kindRead, reportRead, reportAt};
-use executive::Kind;
+use entries::Kind;
 use executive::Report;
 use lines::reading::Number;
 use lines::reading::ValueAt;

@@ -24,8 +24,8 @@ use crate::reports::report_field;
 use answers::Answer;
 use executive::Report;
 use executive::Run;
-use executive::Slot;
 use plan::Plan;
+use ready::Slot;
 
 // The room that one event's lines need at most: a line of each job.
 pub const RUN_ROOM: usize = 4096;
@@ -246,11 +246,11 @@ fn put_job_lines(out: &mut [u8], run: Run) -> usize
     ensures { λ r. ⌜ Piece runRoom 0 (jobLines run) (now (out .entry)) r (now (out .exit)) ⌝ }
 {
     let count = listed_jobs(run.plan.jobs);
-    let job = run.job;
+    let entry = run.entry;
     let mut at = 0;
     let mut i = 0;
     while i < count {
-        at = put_job_line(out, at, 1 + i, job[i]);
+        at = put_job_line(out, at, 1 + i, entry[i]);
         i += 1;
     }
     at

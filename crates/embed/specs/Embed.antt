@@ -9,7 +9,7 @@ use Rattle.answers.specs.Answer.{numberOf, placesOf, accepted, _andThen_}
 use Rattle.plan_text.specs.Read.{readPlan}
 use Rattle.acceptance.specs.Analysis.{analysis}
 use Rattle.executive.specs.declared.Run.{Run}
-use Rattle.executive.specs.declared.Kind.{Kind}
+use Rattle.entries.specs.declared.Kind.{Kind}
 use Rattle.executive.specs.Run.{start}
 use Rattle.executive.specs.Step.{step}
 

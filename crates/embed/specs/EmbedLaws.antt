@@ -16,7 +16,7 @@ use Rattle.answers.specs.AnswerLaws.{passes, refuses}
 use Rattle.acceptance.specs.declared.Analysis.{Analysis}
 use Rattle.acceptance.specs.Analysis.{analysis}
 use Rattle.executive.specs.declared.Run.{Run}
-use Rattle.executive.specs.declared.Kind.{Kind}
+use Rattle.entries.specs.declared.Kind.{Kind}
 use Rattle.executive.specs.declared.Started.{Started}
 use Rattle.executive.specs.declared.Stepped.{Stepped}
 use Rattle.executive.specs.Run.{start}

@@ -10,7 +10,7 @@ ghost use Rattle.lines.specs.Writing.{putFit, placeAfter};
 ghost use Rattle.console.specs.Lists.{checkLength, checkWritten};
 ghost use Rattle.console.specs.Run.{runOutput};
 use answers::Answer;
-use executive::Kind;
+use entries::Kind;
 use executive::Report;
 use executive::Run;
 

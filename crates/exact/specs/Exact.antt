@@ -11,16 +11,18 @@ use Rattle.answers.specs.declared.Answer.the-variants.{Accepted}
 use Rattle.answers.specs.Answer.{accepted}
 use Rattle.windows.specs.Windows.{dueBy, within}
 use Rattle.plan.specs.declared.Plan.{Plan}
-use Rattle.acceptance.specs.Acceptance.{wellFormed, acceptance}
+use Rattle.acceptance.specs.Acceptance.{acceptance}
 use Rattle.acceptance.specs.Analysis.{analysis}
-use Rattle.acceptance_promise.specs.Promise.{Sized, windowsOf, InOrder, hiOf, asked}
 use Rattle.acceptance_promise.specs.AnswerLaws.{is-accepted, acceptance-accepted, analysis-answer, analysis-accepts}
-use Rattle.acceptance_promise.specs.TableLaws.{within-asked}
 use Rattle.acceptance_promise.specs.Laws.{passes-in-order, accepted-has, refused-has}
 use Rattle.exact.specs.Hopeless.{Needs, tableRun, slotsBy, OverrunsAt, FirstOverrun, Serves, Hopeless, HopelessUnderSome, Demand3c, Demand3cRefused, Demand3cAccepted, TableRunServes}
 use Rattle.exact.specs.ExactRun.{slots-by-long, first-overrun, run-serves}
 use Rattle.exact.specs.ExactRefused.{worst, worst-hopeless}
 use Rattle.exact.specs.ExactAccepted.{order-found}
+use Rattle.well_formed.specs.WellFormed.{wellFormed}
+use Rattle.well_formed.specs.InOrder.{Sized, InOrder}
+use Rattle.spare_theory.specs.Promise.{windowsOf, hiOf, asked}
+use Rattle.spare_theory.specs.TableLaws.{within-asked}
 
 -- no plan is refused wrongly
 pub demand-3c-refused : Demand3cRefused

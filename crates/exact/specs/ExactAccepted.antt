@@ -18,12 +18,13 @@ use Rattle.windows.specs.SlotLaws.{given-joined, given-agree}
 use Rattle.windows.specs.OrderLaws.{order-exists}
 use Rattle.plan.specs.declared.Plan.{Plan}
 use Rattle.plan.specs.Plan.{isHi, tableAt}
-use Rattle.acceptance_promise.specs.Promise.{jobAt, windowsOf, tab, InOrder, hiOf, asked, A2}
-use Rattle.acceptance_promise.specs.InOrderLaws.{job-no}
-use Rattle.acceptance_promise.specs.CountLaws.{tab-last, tab-mono}
-use Rattle.acceptance_promise.specs.TableLaws.{hi-left, asked-high, feasible, asked-in-time, a1-of-a2, overrun-in-time}
 use Rattle.exact.specs.Hopeless.{Needs, tableRun, slotsBy, FirstOverrun, Continues, JobsOnly, Serves}
 use Rattle.exact.specs.ExactRun.{slots-by-long, slots-by-at, slots-by-serves, run-names, run-gives, Overrun, overruns-at, overrun-of, overruns-by}
+use Rattle.well_formed.specs.InOrder.{jobAt, tab, InOrder}
+use Rattle.spare_theory.specs.Promise.{windowsOf, hiOf, asked, A2}
+use Rattle.well_formed.specs.InOrderLaws.{job-no}
+use Rattle.spare_theory.specs.CountLaws.{tab-last, tab-mono}
+use Rattle.spare_theory.specs.TableLaws.{hi-left, asked-high, feasible, asked-in-time, a1-of-a2, overrun-in-time}
 
 module _ (p : Plan) (need : ℕ → ℕ) where
   -- what a HI job still needs at border t of the table run

@@ -16,13 +16,14 @@ use Rattle.windows.specs.Orders.{given}
 use Rattle.windows.specs.SlotLaws.{given-split, given-wider, given-fewer, counting}
 use Rattle.plan.specs.declared.Plan.{Plan}
 use Rattle.plan.specs.Plan.{isHi, tableAt}
-use Rattle.acceptance_promise.specs.Promise.{jobAt, windowsOf, tab, InOrder, asked}
+use Rattle.well_formed.specs.InOrder.{jobAt, tab, InOrder}
+use Rattle.spare_theory.specs.Promise.{windowsOf, asked}
 use Rattle.words.specs.Cases.{never}
-use Rattle.acceptance_promise.specs.InOrderLaws.{job-no, place-of}
-use Rattle.acceptance_promise.specs.CountLaws.{tab-start, tab-split, tab-mono}
-use Rattle.acceptance_promise.specs.TableLaws.{asked-high, asked-case, tab-due, coming-open}
 use Rattle.exact.specs.Hopeless.{Needs, OverrunsAt, FirstOverrun, Continues, Serves, Hopeless}
 use Rattle.exact.specs.ExactRun.{in-window, run-names, Overrun, overruns-at, overrun-of, first-overrun, overruns-by}
+use Rattle.well_formed.specs.InOrderLaws.{job-no, place-of}
+use Rattle.spare_theory.specs.CountLaws.{tab-start, tab-split, tab-mono}
+use Rattle.spare_theory.specs.TableLaws.{asked-high, asked-case, tab-due, coming-open}
 
 -- the needs that a refusal at (t, e) shows
 unfoldable pub worst : Plan → ℕ → ℕ → ℕ → ℕ

@@ -17,11 +17,11 @@ use Rattle.windows.specs.SlotLaws.{given-last, given-joined, given-agree}
 use Rattle.plan.specs.declared.Plan.{Plan}
 use Rattle.plan.specs.Plan.{isHi, tableAt, tableSlots}
 use Rattle.plan.specs.CountLaws.{countUp-length, countUp-at}
-use Rattle.acceptance_promise.specs.Promise.{inWindow, jobAt, tab, InOrder}
 use Rattle.words.specs.Cases.{never}
-use Rattle.acceptance_promise.specs.InOrderLaws.{job-no, place-of}
-use Rattle.acceptance_promise.specs.CountLaws.{naming-window, tab-start, tab-last, tab-reach}
 use Rattle.exact.specs.Hopeless.{tableRun, slotsBy, OverrunsAt, FirstOverrun, Serves}
+use Rattle.well_formed.specs.InOrder.{jobAt, tab, InOrder, inWindow, inWindow}
+use Rattle.well_formed.specs.InOrderLaws.{job-no, place-of}
+use Rattle.spare_theory.specs.CountLaws.{naming-window, tab-start, tab-last, tab-reach}
 
 -- the first number with a property, or none up to m has it
 abbrev First : (ℕ → Type 0) → ℕ → Type 0

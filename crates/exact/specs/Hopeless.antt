@@ -10,9 +10,9 @@ use Rattle.words.specs.Words.{if_then_else_, _<?_, countUp}
 use Rattle.answers.specs.declared.Answer.the-variants.{Accepted}
 use Rattle.plan.specs.declared.Plan.{Plan}
 use Rattle.plan.specs.Plan.{jobNo, isHi, tableAt, tableSlots}
-use Rattle.acceptance_promise.specs.Promise.{Sized, JobOf, inWindow}
-use Rattle.acceptance.specs.Acceptance.{wellFormed}
 use Rattle.acceptance.specs.Analysis.{analysis}
+use Rattle.well_formed.specs.WellFormed.{wellFormed}
+use Rattle.well_formed.specs.InOrder.{Sized, JobOf, inWindow, Sized, JobOf, inWindow}
 
 -- needs: for each job the slots it will turn out to need, none above its larger budget
 abbrev pub Needs : Plan → (ℕ → ℕ) → Type 0

@@ -8,13 +8,13 @@ use mathlib.Core.Bool.{Bool, true, false}
 use Rattle.words.specs.Cases.{never}
 use Rattle.answers.specs.declared.Answer.the-variants.{Accepted, Overdrawn}
 use Rattle.plan.specs.declared.Plan.{Plan}
-use Rattle.acceptance.specs.Acceptance.{wellFormed}
 use Rattle.acceptance.specs.Analysis.{analysis}
-use Rattle.acceptance_promise.specs.Promise.{Sized}
 use Rattle.acceptance_promise.specs.Plans.{A, B}
 use Rattle.acceptance_promise.specs.Compute.{planned}
 use Rattle.exact.specs.Hopeless.{HopelessUnderSome}
 use Rattle.exact.specs.Exact.{demand-3c}
+use Rattle.well_formed.specs.WellFormed.{wellFormed}
+use Rattle.well_formed.specs.InOrder.{Sized}
 
 -- a verdict on plans, of those that pass 2 to 7: it refuses none wrongly, it accepts none wrongly
 abbrev pub RefusesOnlyHopeless : (Plan → Bool) → Type 0

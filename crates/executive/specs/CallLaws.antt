@@ -14,14 +14,15 @@ use Rattle.answers.specs.declared.Answer.{Answer}
 use Rattle.answers.specs.declared.Answer.the-variants.{Accepted, Incoherent, Over, OtherSlot, WrongKind}
 use Rattle.answers.specs.Answer.{accepted, _unless_}
 use Rattle.executive.specs.declared.Run.{Run}
-use Rattle.executive.specs.declared.Slot.{Slot}
+use Rattle.ready.specs.declared.Slot.{Slot}
 use Rattle.executive.specs.declared.Report.{Report}
 use Rattle.executive.specs.declared.Choice.{Choice}
 use Rattle.executive.specs.declared.Stepped.{Stepped}
 use Rattle.executive.specs.Coherent.{coherent}
-use Rattle.executive.specs.Choice.{ready, setOf, howMany, chosen, canGoOn, choose}
-use Rattle.executive.specs.Ready.{members}
-use Rattle.executive.specs.ReadyLaws.{members-all, ones-set}
+use Rattle.executive.specs.Choice.{ready, chosen, canGoOn, choose, members}
+use Rattle.ready.specs.Ready.{setOf, howMany}
+use Rattle.executive.specs.MemberLaws.{members-all}
+use Rattle.ready.specs.ReadyLaws.{ones-set}
 use Rattle.answers.specs.RefusalLaws.{unless-holds, both-accept}
 use Rattle.executive.specs.Step.{nextRun, kindFits, reportAnswer, step}
 

@@ -4,24 +4,27 @@ use mathlib.Core.Bool.{Bool, true, false, not, _&&_}
 use mathlib.Core.Path.{_≡_, sym, ap, _∙_}
 use lib.IntN.{pos}
 use lib.ListN.{getD}
+use native.Mathlib.Omega.{arith}
+use Rattle.ready.specs.ReadyLaws.{walk-members}
 use Rattle.words.specs.Words.{_≤?_, below0, above0}
 use Rattle.plan.specs.Limits.{maxJobs}
 use Rattle.intervals.specs.Intervals.{intervals, past}
 use Rattle.intervals.specs.Spares.{current}
 use Rattle.executive.specs.declared.Run.{Run}
-use Rattle.executive.specs.declared.Slot.{Slot}
-use Rattle.executive.specs.Run.{live, freshEntry, currentHi, currentLo}
-use Rattle.executive.specs.Choice.{setOf, earliest, chosenT, chosenH}
-use Rattle.executive.specs.Ready.{members, membersOf, planOf}
-use Rattle.executive.specs.ReadyLaws.{Full, members-all, members-hi, walk-members}
+use Rattle.ready.specs.declared.Slot.{Slot}
+use Rattle.entries.specs.Entry.{live, freshEntry}
+use Rattle.executive.specs.Run.{currentHi, currentLo}
+use Rattle.ready.specs.Ready.{setOf, earliest, membersOf}
+use Rattle.executive.specs.Choice.{chosenT, chosenH, members}
+use Rattle.executive.specs.MemberLaws.{Full, members-all, members-hi, members-length}
 
 -- the slot from the set
-from-set : (hi : Bool) (r : Run) (set : ℕ) (slot : Slot) → Full r → set ≡ setOf (members hi r) → slot ≡ earliest (planOf (r .plan .job)) (membersOf maxJobs set) → slot ≡ earliest (r .plan) (members hi r)
-from-set hi r set slot full p q = q ∙ ap (λ (n : ℕ). earliest (planOf (r .plan .job)) (membersOf maxJobs n)) p ∙ walk-members hi r full
+from-set : (hi : Bool) (r : Run) (set : ℕ) (slot : Slot) → Full r → set ≡ setOf (members hi r) → slot ≡ earliest (r .plan .job) (membersOf maxJobs set) → slot ≡ earliest (r .plan .job) (members hi r)
+from-set hi r set slot full p q = q ∙ ap (λ (n : ℕ). earliest (r .plan .job) (membersOf maxJobs n)) p ∙ (let l = members-length hi r full in walk-members (r .plan .job) maxJobs (members hi r) (omega arith))
 
 module _ (r : Run) (t i : ℕ) (has : Bool) (et : t ≡ r .t) (ei : i ≡ getD (r .plan .table) t 0 - 1)
-    (eh : has ≡ ((1 ≤? getD (r .plan .table) t 0) && live (getD (r .job) i freshEntry))) where
-  table-test : (b : Bool) → has ≡ b → ((1 ≤? getD (r .plan .table) (r .t) 0) && live (getD (r .job) (getD (r .plan .table) (r .t) 0 - 1) freshEntry)) ≡ b
+    (eh : has ≡ ((1 ≤? getD (r .plan .table) t 0) && live (getD (r .entry) i freshEntry))) where
+  table-test : (b : Bool) → has ≡ b → ((1 ≤? getD (r .plan .table) (r .t) 0) && live (getD (r .entry) (getD (r .plan .table) (r .t) 0 - 1) freshEntry)) ≡ b
   table-test b p = rw (ei, et) at (sym eh ∙ p)
 
   -- the table's job is live
@@ -30,7 +33,7 @@ module _ (r : Run) (t i : ℕ) (has : Bool) (et : t ≡ r .t) (ei : i ≡ getD (
   table-slot p = rw (table-test true p, et)
 
   -- it is not: the earliest-deadline ready job
-  pub other-slot : has ≡ false → (set : ℕ) (slot : Slot) → Full r → set ≡ setOf (members false r) → slot ≡ earliest (planOf (r .plan .job)) (membersOf maxJobs set) → slot ≡ chosenT r
+  pub other-slot : has ≡ false → (set : ℕ) (slot : Slot) → Full r → set ≡ setOf (members false r) → slot ≡ earliest (r .plan .job) (membersOf maxJobs set) → slot ≡ chosenT r
   unfolding chosenT
   other-slot p set slot full q s = rw (table-test false p, ← members-all r) (from-set false r set slot full q s)
 
@@ -41,10 +44,10 @@ module _ (r : Run) (place : ℕ) (all : Bool) (set : ℕ) (slot : Slot) (ep : pl
   unfolding current
   spare-test b p = rw ep at (sym ea ∙ p)
 
-  pub open-slot : all ≡ true → set ≡ setOf (members false r) → slot ≡ earliest (planOf (r .plan .job)) (membersOf maxJobs set) → slot ≡ chosenH r
+  pub open-slot : all ≡ true → set ≡ setOf (members false r) → slot ≡ earliest (r .plan .job) (membersOf maxJobs set) → slot ≡ chosenH r
   unfolding chosenH
   open-slot p q s = rw (spare-test true p, ← members-all r) (from-set false r set slot full q s)
 
-  pub hi-slot : all ≡ false → set ≡ setOf (members true r) → slot ≡ earliest (planOf (r .plan .job)) (membersOf maxJobs set) → slot ≡ chosenH r
+  pub hi-slot : all ≡ false → set ≡ setOf (members true r) → slot ≡ earliest (r .plan .job) (membersOf maxJobs set) → slot ≡ chosenH r
   unfolding chosenH
   hi-slot p q s = rw (spare-test false p, ← members-hi r) (from-set true r set slot full q s)

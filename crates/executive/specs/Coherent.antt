@@ -3,24 +3,24 @@ use Prim.Native.Nat.{ℕ}
 use mathlib.Core.Bool.{Bool, false, _&&_}
 use mathlib.Core.List.{List, zipWith}
 use lib.IntN.{ℤ, pos, negsuc}
-use Rattle.words.specs.Words.{_≤?_, _<?_, _=?_, every}
+use Rattle.words.specs.Words.{_≤?_, _=?_, every}
 use Rattle.plan.specs.Plan.{jobsOf}
 use Rattle.answers.specs.Answer.{accepted}
-use Rattle.acceptance.specs.Acceptance.{wellFormed}
-use Rattle.executive.specs.declared.Standing.{Standing}
-use Rattle.executive.specs.declared.Standing.the-variants.{Waiting, Finished, Cut, Dropped}
+use Rattle.well_formed.specs.WellFormed.{wellFormed}
+use Rattle.plan.specs.declared.Job.{Job}
+use Rattle.entries.specs.declared.Entry.{Entry}
+use Rattle.entries.specs.Entry.{entryHolds}
 use Rattle.executive.specs.declared.Run.{Run}
 use Rattle.executive.specs.Run.{freshHi, freshLo}
+use Rattle.entries.specs.declared.Standing.{Standing}
+use Rattle.entries.specs.declared.Standing.the-variants.{Waiting, Finished, Cut, Dropped}
 
--- a live job has fewer slots than hi; an ended one at most hi, and is not marked ended after t
-unfoldable pub standingHolds : ℕ → ℕ → ℕ → Standing → Bool
-standingHolds t hi given Waiting = given <? hi
-standingHolds t hi given (Finished border) = (given ≤? hi) && (border ≤? t)
-standingHolds t hi given (Cut border) = (given ≤? hi) && (border ≤? t)
-standingHolds t hi given (Dropped border) = (given ≤? hi) && (border ≤? t)
+-- the entries of these jobs hold at border t
+abbrev pub allHold : ℕ → List Job → List Entry → Bool
+allHold t js es = every (zipWith (entryHolds t) js es)
 
 unfoldable pub entriesHold : Run → Bool
-entriesHold r = every (zipWith (λ j e. standingHolds (r .t) (j .hi) (e .given) (e .standing)) (jobsOf (r .plan)) (r .job))
+entriesHold r = allHold (r .t) (jobsOf (r .plan)) (r .entry)
 
 abbrev pub sameSpare : ℤ → ℤ → Bool
 sameSpare (pos m) (pos n) = m =? n

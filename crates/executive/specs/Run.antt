@@ -1,6 +1,5 @@
--- The run: who is live, the fresh spares, the blank run, and a new run.
+-- The run: the fresh spares, the blank run, and a new run.
 use Prim.Native.Nat.{ℕ, _-_}
-use mathlib.Core.Bool.{Bool, true, false}
 use mathlib.Core.List.{List, zipWith}
 use lib.IntN.{ℤ}
 use lib.ListN.{getD, replicate}
@@ -13,36 +12,22 @@ use Rattle.answers.specs.Answer.{accepted}
 use Rattle.intervals.specs.Spares.{hiLeft, loLeft, row, noSpares, current}
 use Rattle.acceptance.specs.Acceptance.{acceptance}
 use Rattle.acceptance.specs.Analysis.{hiAtStart, loAtStart}
-use Rattle.executive.specs.declared.Standing.{Standing}
-use Rattle.executive.specs.declared.Standing.the-variants.{Waiting, Finished, Cut, Dropped}
-use Rattle.executive.specs.declared.Entry.{Entry}
+use Rattle.entries.specs.declared.Entry.{Entry}
+use Rattle.entries.specs.Entry.{live, freshEntry}
 use Rattle.executive.specs.declared.Phase.the-variants.{T}
 use Rattle.executive.specs.declared.Run.{Run}
 use Rattle.executive.specs.declared.Started.{Started}
 
--- waiting is live, the others are ended
-abbrev pub waiting : Standing → Bool
-waiting Waiting = true
-waiting (Finished border) = false
-waiting (Cut border) = false
-waiting (Dropped border) = false
-
-abbrev pub live : Entry → Bool
-live e = waiting (e .standing)
-
-abbrev pub freshEntry : Entry
-freshEntry = record { standing = Waiting; given = 0 }
-
 -- the entry of job k
 abbrev pub entryNo : Run → ℕ → Entry
-entryNo r k = getD (r .job) (k - 1) freshEntry
+entryNo r k = getD (r .entry) (k - 1) freshEntry
 
 -- HI and LO work of the run's jobs
 unfoldable pub hiWork : Run → List ℕ
-hiWork r = zipWith (λ j e. hiLeft j (live e) (e .given)) (jobsOf (r .plan)) (r .job)
+hiWork r = zipWith (λ j e. hiLeft j (live e) (e .given)) (jobsOf (r .plan)) (r .entry)
 
 unfoldable pub loWork : Run → List ℕ
-loWork r = zipWith (λ j e. loLeft j (live e) (e .given)) (jobsOf (r .plan)) (r .job)
+loWork r = zipWith (λ j e. loLeft j (live e) (e .given)) (jobsOf (r .plan)) (r .entry)
 
 -- the spares worked out afresh; at t = N all are 0
 unfoldable pub freshHi : Run → List ℤ
@@ -60,11 +45,11 @@ currentLo r = current (r .plan) (r .t) (r .lo)
 
 -- the blank plan, t = 0, phase T, all spares 0, every entry waiting with 0 given
 abbrev pub blankRun : Run
-blankRun = record { plan = blankPlan; t = 0; phase = T; hi = noSpares; lo = noSpares; job = replicate maxJobs freshEntry }
+blankRun = record { plan = blankPlan; t = 0; phase = T; hi = noSpares; lo = noSpares; entry = replicate maxJobs freshEntry }
 
 -- that plan, t = 0, phase T, the spares of border 0, every entry, those beyond n too, waiting with 0 given
 abbrev pub newRun : Plan → Run
-newRun p = record { plan = p; t = 0; phase = T; hi = row p 0 (hiAtStart p); lo = row p 0 (loAtStart p); job = replicate maxJobs freshEntry }
+newRun p = record { plan = p; t = 0; phase = T; hi = row p 0 (hiAtStart p); lo = row p 0 (loAtStart p); entry = replicate maxJobs freshEntry }
 
 -- a new run is made only from an accepted plan; otherwise the plan's refusal is the answer
 unfoldable pub start : Plan → Started

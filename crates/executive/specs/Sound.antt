@@ -4,7 +4,7 @@ use Rattle.plan.specs.Limits.{maxSlots, maxJobs}
 use Rattle.plan.specs.Counts.{maxCount}
 use Rattle.plan.specs.Plan.{tableAt}
 use Rattle.executive.specs.declared.Run.{Run}
-use Rattle.executive.specs.declared.Slot.{Slot}
+use Rattle.ready.specs.declared.Slot.{Slot}
 use Rattle.executive.specs.Run.{entryNo}
 
 -- n is within its limit, slot t within the table, and what the table names there within the jobs

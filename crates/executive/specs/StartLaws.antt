@@ -11,11 +11,12 @@ use Rattle.plan.specs.Limits.{maxJobs}
 use Rattle.acceptance.specs.declared.Analysis.{Analysis}
 use Rattle.acceptance.specs.Acceptance.{acceptance}
 use Rattle.acceptance.specs.Analysis.{refusedAnalysis, acceptedAnalysis, analysis}
-use Rattle.executive.specs.declared.Entry.{Entry}
+use Rattle.entries.specs.declared.Entry.{Entry}
 use Rattle.executive.specs.declared.Phase.the-variants.{T}
 use Rattle.executive.specs.declared.Run.{Run}
 use Rattle.executive.specs.declared.Started.{Started}
-use Rattle.executive.specs.Run.{freshEntry, blankRun, start}
+use Rattle.entries.specs.Entry.{freshEntry}
+use Rattle.executive.specs.Run.{blankRun, start}
 
 module _ (p : Plan) where
   found : (b : Bool) → accepted (acceptance p) ≡ b → analysis p ≡ (if b then acceptedAnalysis p else refusedAnalysis (acceptance p))
@@ -39,6 +40,6 @@ module _ (p : Plan) (a : Analysis) (ok : Bool) (ea : a ≡ analysis p) (eo : ok 
   unfolding start
   start-refused h blank eb = rw (verdict false h, ea, found p false (verdict false h), eb)
 
-  pub start-made : ok ≡ true → (job : List Entry) → job ≡ replicate maxJobs freshEntry → _≡_ {A = Started} (record { answer = Accepted; run = record { plan = p; t = 0; phase = T; hi = a .hi; lo = a .lo; job = job } }) (start p)
+  pub start-made : ok ≡ true → (job : List Entry) → job ≡ replicate maxJobs freshEntry → _≡_ {A = Started} (record { answer = Accepted; run = record { plan = p; t = 0; phase = T; hi = a .hi; lo = a .lo; entry = job } }) (start p)
   unfolding start
   start-made h job ej = rw (verdict true h, ea, found p true (verdict true h), ej)

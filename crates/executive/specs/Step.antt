@@ -1,72 +1,50 @@
 -- One report, applied.
 use Prim.Native.Nat.{ℕ, _+_, _-_}
-use mathlib.Core.Bool.{Bool, true, false, not, _&&_, _||_}
+use mathlib.Core.Bool.{Bool, true, false, _&&_}
 use mathlib.Core.List.{List, [], _∷_}
 use lib.ListN.{set}
 use Rattle.plan.specs.declared.Job.{Job}
 use Rattle.answers.specs.declared.Answer.{Answer}
 use Rattle.answers.specs.declared.Answer.the-variants.{Accepted, OtherSlot, WrongKind}
-use Rattle.words.specs.Words.{if_then_else_, _≤?_, _=?_}
+use Rattle.words.specs.Words.{if_then_else_, _=?_}
 use Rattle.plan.specs.Plan.{jobsOf, jobNo, isHi, countsAt}
 use Rattle.answers.specs.Answer.{accepted, _unless_, _andThen_}
-use Rattle.executive.specs.declared.Standing.{Standing}
-use Rattle.executive.specs.declared.Standing.the-variants.{Finished, Cut, Dropped}
-use Rattle.executive.specs.declared.Entry.{Entry}
+use Rattle.entries.specs.declared.Entry.{Entry}
 use Rattle.executive.specs.declared.Phase.{Phase}
 use Rattle.executive.specs.declared.Phase.the-variants.{T, H}
 use Rattle.executive.specs.declared.Run.{Run}
-use Rattle.executive.specs.declared.Slot.{Slot}
-use Rattle.executive.specs.declared.Kind.{Kind}
-use Rattle.executive.specs.declared.Kind.the-variants.{End, More, None}
+use Rattle.ready.specs.declared.Slot.{Slot}
+use Rattle.entries.specs.declared.Kind.{Kind}
+use Rattle.entries.specs.declared.Kind.the-variants.{End, More, None}
 use Rattle.executive.specs.declared.Report.{Report}
 use Rattle.executive.specs.declared.Stepped.{Stepped}
-use Rattle.executive.specs.Run.{live, entryNo, freshHi, freshLo}
+use Rattle.entries.specs.Entry.{ranOn, expiredEntry, pastLo, settled}
+use Rattle.executive.specs.Run.{entryNo, freshHi, freshLo}
 use Rattle.executive.specs.Choice.{chosen, canGoOn}
 
--- with `end` it is finished; with `more` and given = hi it is cut; `border` is t after the step
-unfoldable pub standingAfter : Kind → ℕ → ℕ → ℕ → Standing → Standing
-standingAfter End hi given border before = Finished border
-standingAfter More hi given border before = if given =? hi then Cut border else before
-standingAfter None hi given border before = before
-
--- the job's given grows by 1
-unfoldable pub ranOn : Kind → ℕ → Job → Entry → Entry
-ranOn kind border j e = record { standing = standingAfter kind (j .hi) (e .given + 1) border (e .standing); given = e .given + 1 }
-
 abbrev pub entriesAfter : Run → Slot → Kind → List Entry
-entriesAfter r Slot.Idle kind = r .job
-entriesAfter r (Slot.Job k) kind = set (r .job) (k - 1) (ranOn kind (r .t + 1) (jobNo (r .plan) k) (entryNo r k))
+entriesAfter r Slot.Idle kind = r .entry
+entriesAfter r (Slot.Job k) kind = set (r .entry) (k - 1) (ranOn kind (r .t + 1) (jobNo (r .plan) k) (entryNo r k))
 
 -- the report of a slot is applied to its job, and t grows by 1
 unfoldable pub reported : Run → Slot → Kind → Run
-reported r slot kind = record { plan = r .plan; t = r .t + 1; phase = r .phase; hi = r .hi; lo = r .lo; job = entriesAfter r slot kind }
+reported r slot kind = record { plan = r .plan; t = r .t + 1; phase = r .phase; hi = r .hi; lo = r .lo; entry = entriesAfter r slot kind }
 
--- live LO jobs with d <= t are dropped
-unfoldable pub expiredEntry : ℕ → Job → Entry → Entry
-expiredEntry t j e = if live e && not (isHi j) && (j .deadline ≤? t) then record { standing = Dropped t; given = e .given } else e
-
--- of the n jobs: the entries beyond them stay
+-- live LO jobs with d <= t are dropped, of the n jobs: the entries beyond them stay
 unfoldable pub expiredEntries : ℕ → List Job → List Entry → List Entry
 expiredEntries t [] es = es
 expiredEntries t (j ∷ js) [] = []
 expiredEntries t (j ∷ js) (e ∷ es) = expiredEntry t j e ∷ expiredEntries t js es
 
 unfoldable pub expired : Run → Run
-expired r = record { plan = r .plan; t = r .t; phase = r .phase; hi = r .hi; lo = r .lo; job = expiredEntries (r .t) (jobsOf (r .plan)) (r .job) }
-
--- a live HI job with given >= lo
-unfoldable pub pastLo : Job → Entry → Bool
-pastLo j e = live e && isHi j && (j .lo ≤? e .given)
+expired r = record { plan = r .plan; t = r .t; phase = r .phase; hi = r .hi; lo = r .lo; entry = expiredEntries (r .t) (jobsOf (r .plan)) (r .entry) }
 
 -- overrun: the reported HI job is live and given >= lo
 unfoldable pub overrun : Run → Slot → Bool
 overrun r Slot.Idle = false
 overrun r (Slot.Job k) = pastLo (jobNo (r .plan) k) (entryNo r k)
 
--- a live job has been given at least its table slots before t, and is no HI job with given >= lo
-unfoldable pub settled : Job → Entry → ℕ → Bool
-settled j e count = not (live e) || ((count ≤? e .given) && not (pastLo j e))
-
+-- each of the jobs has settled, `counts` being its table slots before t
 unfoldable pub everySettled : List Job → List Entry → List ℕ → Bool
 everySettled [] es counts = true
 everySettled (j ∷ js) [] counts = true
@@ -75,7 +53,7 @@ everySettled (j ∷ js) (e ∷ es) (count ∷ counts) = settled j e count && eve
 
 -- the return test, job by job against the counts of border t
 unfoldable pub canReturn : Run → Bool
-canReturn r = everySettled (jobsOf (r .plan)) (r .job) (countsAt (r .plan) (r .t))
+canReturn r = everySettled (jobsOf (r .plan)) (r .entry) (countsAt (r .plan) (r .t))
 
 -- in phase T an overrun makes it H; in phase H it becomes T exactly when it can return
 abbrev pub phaseAfter : Phase → Run → Slot → Phase
@@ -84,11 +62,11 @@ phaseAfter H r slot = if canReturn r then T else H
 
 -- the phase comes last, judged on what then stands
 unfoldable pub judged : Run → Slot → Run
-judged r slot = record { plan = r .plan; t = r .t; phase = phaseAfter (r .phase) r slot; hi = r .hi; lo = r .lo; job = r .job }
+judged r slot = record { plan = r .plan; t = r .t; phase = phaseAfter (r .phase) r slot; hi = r .hi; lo = r .lo; entry = r .entry }
 
 -- both rows equal the fresh values after every step
 unfoldable pub refreshed : Run → Run
-refreshed r = record { plan = r .plan; t = r .t; phase = r .phase; hi = freshHi r; lo = freshLo r; job = r .job }
+refreshed r = record { plan = r .plan; t = r .t; phase = r .phase; hi = freshHi r; lo = freshLo r; entry = r .entry }
 
 -- the run after an accepted report
 unfoldable pub nextRun : Run → Slot → Kind → Run

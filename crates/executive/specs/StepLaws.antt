@@ -12,13 +12,13 @@ use Rattle.plan.specs.declared.Job.{Job}
 use Rattle.plan.specs.Plan.{blankJob}
 use Rattle.words.specs.Words.{if_then_else_, filled}
 use Rattle.words.specs.ListLaws.{taken-from}
-use Rattle.executive.specs.declared.Entry.{Entry}
+use Rattle.entries.specs.declared.Entry.{Entry}
 use Rattle.executive.specs.declared.Run.{Run}
-use Rattle.executive.specs.declared.Slot.{Slot}
-use Rattle.executive.specs.declared.Kind.{Kind}
+use Rattle.ready.specs.declared.Slot.{Slot}
+use Rattle.entries.specs.declared.Kind.{Kind}
 use Rattle.executive.specs.declared.Phase.{Phase}
-use Rattle.executive.specs.Run.{freshEntry}
-use Rattle.executive.specs.Step.{ranOn, reported, expiredEntry, expiredEntries, expired, pastLo, overrun, settled, everySettled, canReturn, phaseAfter, judged, refreshed, nextRun}
+use Rattle.entries.specs.Entry.{freshEntry, ranOn, expiredEntry, pastLo, settled}
+use Rattle.executive.specs.Step.{reported, expiredEntries, expired, overrun, everySettled, canReturn, phaseAfter, judged, refreshed, nextRun}
 use Rattle.executive.specs.Sound.{Listed, Countable}
 
 -- one entry more has met its border
@@ -67,12 +67,12 @@ filled-next n z d i xs h l =
 
 module _ (r : Run) (slot : Slot) (k i : ℕ) (p : slot ≡ Slot.Job k) (q : i ≡ k - 1) where
   -- a slot with a job, reported
-  pub ran : (kind : Kind) (e : Entry) → e ≡ ranOn kind (r .t + 1) (getD (r .plan .job) i blankJob) (getD (r .job) i freshEntry) → record { plan = r .plan; t = r .t + 1; phase = r .phase; hi = r .hi; lo = r .lo; job = set (r .job) i e } ≡ reported r slot kind
+  pub ran : (kind : Kind) (e : Entry) → e ≡ ranOn kind (r .t + 1) (getD (r .plan .job) i blankJob) (getD (r .entry) i freshEntry) → record { plan = r .plan; t = r .t + 1; phase = r .phase; hi = r .hi; lo = r .lo; entry = set (r .entry) i e } ≡ reported r slot kind
   unfolding reported
   ran kind e h = rw (p, h, q)
 
   -- whether it overruns
-  pub overran : (b : Bool) → b ≡ pastLo (getD (r .plan .job) i blankJob) (getD (r .job) i freshEntry) → b ≡ overrun r slot
+  pub overran : (b : Bool) → b ≡ pastLo (getD (r .plan .job) i blankJob) (getD (r .entry) i freshEntry) → b ≡ overrun r slot
   unfolding overrun
   overran b h = rw (p, h, q)
 

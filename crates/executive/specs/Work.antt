@@ -6,9 +6,9 @@ use Rattle.plan.specs.declared.Job.{Job}
 use Rattle.words.specs.Words.{filled}
 use Rattle.plan.specs.Limits.{maxJobs}
 use Rattle.intervals.specs.Spares.{hiLeft, loLeft}
-use Rattle.executive.specs.declared.Entry.{Entry}
+use Rattle.entries.specs.declared.Entry.{Entry}
 use Rattle.executive.specs.declared.work.Work.{Work}
-use Rattle.executive.specs.Run.{live}
+use Rattle.entries.specs.Entry.{live}
 
 -- the work of one job for the HI row, or for the LO row
 unfoldable pub workLeft : Bool → Job → Entry → ℕ

@@ -19,11 +19,12 @@ use Rattle.intervals.specs.Intervals.{maxIntervals, intervals}
 use Rattle.intervals.specs.Spares.{hiLeft, loLeft, remaining, spares, row}
 use Rattle.intervals.specs.Layout.{layoutOf, rowIn}
 use Rattle.intervals.specs.LayoutLaws.{row-of-layout}
-use Rattle.executive.specs.declared.Entry.{Entry}
+use Rattle.entries.specs.declared.Entry.{Entry}
 use Rattle.executive.specs.declared.Run.{Run}
 use Rattle.executive.specs.declared.work.Work.{Work}
-use Rattle.executive.specs.Run.{live, hiWork, loWork, freshHi, freshLo}
-use Rattle.executive.specs.ReadyLaws.{Full}
+use Rattle.entries.specs.Entry.{live}
+use Rattle.executive.specs.Run.{hiWork, loWork, freshHi, freshLo}
+use Rattle.executive.specs.MemberLaws.{Full}
 use Rattle.executive.specs.StepLaws.{filled-next}
 use Rattle.executive.specs.Work.{workLeft, workAt, workOf}
 use Rattle.words.specs.ZipLaws.{zipped-length, zipped-at}
@@ -70,11 +71,11 @@ unfolding row
 row-front p t ws zs h = ap (filled maxIntervals (pos 0)) (spares-front t (jobsOf p) ws zs (intervals p) h)
 
 -- the rows of this work, in the layout of a run's plan, are its fresh rows
-module _ (r : Run) (l : Layout) (work : Work) (full : Full r) (el : l ≡ layoutOf (r .plan)) (ew : work ≡ workOf (jobsOf (r .plan)) (r .job)) where
-  row-of-run : (hi : Bool) → rowIn l (r .t) (filled maxJobs 0 (workAt hi (jobsOf (r .plan)) (r .job))) ≡ row (r .plan) (r .t) (workAt hi (jobsOf (r .plan)) (r .job))
+module _ (r : Run) (l : Layout) (work : Work) (full : Full r) (el : l ≡ layoutOf (r .plan)) (ew : work ≡ workOf (jobsOf (r .plan)) (r .entry)) where
+  row-of-run : (hi : Bool) → rowIn l (r .t) (filled maxJobs 0 (workAt hi (jobsOf (r .plan)) (r .entry))) ≡ row (r .plan) (r .t) (workAt hi (jobsOf (r .plan)) (r .entry))
   row-of-run hi =
-      let ws = workAt hi (jobsOf (r .plan)) (r .job) in
-      let n = work-length hi (r .plan .job) (r .job) (r .plan .jobs) (omega arith) (omega arith) in
+      let ws = workAt hi (jobsOf (r .plan)) (r .entry) in
+      let n = work-length hi (r .plan .job) (r .entry) (r .plan .jobs) (omega arith) (omega arith) in
       let j : length (jobsOf (r .plan)) ≡ r .plan .jobs = length-take-le (r .plan .jobs) (r .plan .job) (omega arith) in
       rw el (row-of-layout (r .plan) (r .t) (filled maxJobs 0 ws)) ∙ row-front (r .plan) (r .t) ws (replicate (maxJobs - length ws) 0) (omega arith)
 

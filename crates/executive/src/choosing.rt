@@ -1,25 +1,23 @@
 // Who gets slot t, in either phase. What a choice is refused for is in lib.rt.
 ghost use mathlib.Core.Path.{_≡_};
 ghost use mathlib.Core.Bool.{false, not, _&&_};
-ghost use Prim.Native.Nat.{_≤_};
 ghost use lib.IntN.{pos};
 ghost use lib.ListN.{getD};
 ghost use Rattle.words.specs.Words.{_≤?_, below0, above0};
-ghost use Rattle.plan.specs.Limits.{maxJobs};
 ghost use Rattle.intervals.specs.Intervals.{intervals, past};
-ghost use Rattle.executive.specs.Run.{live};
-ghost use Rattle.executive.specs.Choice.{setOf, chosenT, chosenH, chosen};
-ghost use Rattle.executive.specs.Ready.{members};
+ghost use Rattle.entries.specs.Entry.{live};
+ghost use Rattle.ready.specs.Ready.{setOf};
+ghost use Rattle.executive.specs.Choice.{chosenT, chosenH, chosen, members};
 ghost use Rattle.executive.specs.Sound.{Sound};
-use crate::Entry;
 use crate::Phase;
 use crate::Run;
-use crate::Slot;
-use crate::entries::is_live;
-use crate::ready::earliest;
-use crate::ready::index;
-use crate::ready::ready_set;
+use entries::Entry;
+use entries::is_live;
 use intervals::INTERVALS;
+use ready::Slot;
+use ready::earliest;
+use ready::index;
+use ready::ready_set;
 
 // The table's job k has its slot when it is live.
 fn has_slot(k: u16, e: Entry) -> bool
@@ -74,7 +72,7 @@ impl Run {
         let t = plan::wide(self.t);
         let k = table[t];
         let i = index(k);
-        let entry = self.job;
+        let entry = self.entry;
         let e = entry[i];
         if has_slot(k, e) {
             return Slot::Job(k);
@@ -95,20 +93,19 @@ impl Run {
         if open_to_all(hi, lo, place) {
             return earliest(job, ready);
         }
-        let entry = self.job;
-        let set = ready_set(true, self.t, job, entry, p.jobs as usize);
+        let entry = self.entry;
+        let set = ready_set(true, self.t, job, entry, p.jobs);
         earliest(job, set)
     }
 
     // The set of the ready jobs.
     pub(crate) fn ready(self) -> u32
-        requires { ⌜ self .plan .jobs ≤ maxJobs ⌝ }
         ensures { λ r. ⌜ r ≡ setOf (members false self) ⌝ }
     {
         let p = self.plan;
         let job = p.job;
-        let entry = self.job;
-        ready_set(false, self.t, job, entry, p.jobs as usize)
+        let entry = self.entry;
+        ready_set(false, self.t, job, entry, p.jobs)
     }
 
     // `place` is that of the current interval, `ready` the set of the ready jobs.

@@ -4,13 +4,12 @@ ghost use Prim.Native.Nat.{_≤_};
 ghost use lib.ListN.{take};
 ghost use Rattle.plan.specs.Limits.{maxJobs};
 ghost use Rattle.intervals.specs.Layout.{layoutOf};
-ghost use Rattle.executive.specs.Coherent.{sameRow, coherent};
-ghost use Rattle.executive.specs.Parts.{allHold};
+ghost use Rattle.executive.specs.Coherent.{allHold, sameRow, coherent};
 ghost use Rattle.executive.specs.Step.{refreshed};
-use crate::Entry;
 use crate::Run;
-use crate::entries::standing_holds;
 use crate::work::work_of;
+use entries::Entry;
+use entries::standing_holds;
 use intervals::INTERVALS;
 use intervals::Layout;
 use plan::JOBS;
@@ -58,7 +57,7 @@ impl Run {
     {
         let p = self.plan;
         let job = p.job;
-        let entry = self.job;
+        let entry = self.entry;
         let n = p.jobs as usize;
         let work = work_of(job, entry, n);
         let hi_work = work.hi;
@@ -77,7 +76,7 @@ impl Run {
         ensures { λ r. ⌜ r ≡ coherent self ⌝ }
     {
         let p = self.plan;
-        let answer = acceptance::well_formed(p);
+        let answer = well_formed::well_formed(p);
         if !answers::is_accepted(answer) {
             return false;
         }
@@ -86,7 +85,7 @@ impl Run {
         }
         let n = p.jobs as usize;
         let job = p.job;
-        let entry = self.job;
+        let entry = self.entry;
         if !entries_hold(self.t, job, entry, n) {
             return false;
         }

@@ -3,35 +3,24 @@ ghost use mathlib.Core.Path.{_≡_};
 ghost use lib.ListN.{replicate};
 ghost use Rattle.plan.specs.Limits.{maxJobs};
 ghost use Rattle.intervals.specs.Layout.{layoutOf};
-ghost use Rattle.executive.specs.Run.{freshEntry, blankRun, start};
+ghost use Rattle.entries.specs.Entry.{freshEntry};
+ghost use Rattle.executive.specs.Run.{blankRun, start};
 ghost use Rattle.executive.specs.Coherent.{coherent};
 ghost use Rattle.executive.specs.Choice.{canGoOn, choose};
 ghost use Rattle.executive.specs.Step.{nextRun, step};
 ghost use Rattle.executive.specs.Sound.{Sound, Countable};
 use answers::Answer;
-use entries::kind_fits;
+use entries::Entry;
+use entries::Kind;
 use intervals::Layout;
 use plan::Plan;
+use ready::Slot;
+use stepping::kind_fits;
 
 mod choosing;
 mod coherence;
-mod entries;
-mod ready;
 mod stepping;
 mod work;
-
-// How a job stands: Waiting is live, the others are ended, with the border after that step.
-pub enum Standing {
-    Waiting,
-    Finished(u16),
-    Cut(u16),
-    Dropped(u16),
-}
-
-pub struct Entry {
-    pub standing: Standing,
-    pub given: u16,
-}
 
 pub enum Phase {
     T,
@@ -44,19 +33,7 @@ pub struct Run {
     pub phase: Phase,
     pub hi: [i32; intervals::INTERVALS],
     pub lo: [i32; intervals::INTERVALS],
-    pub job: [Entry; plan::JOBS],
-}
-
-// What a slot is given to.
-pub enum Slot {
-    Job(u16),
-    Idle,
-}
-
-pub enum Kind {
-    End,
-    More,
-    None,
+    pub entry: [Entry; plan::JOBS],
 }
 
 pub struct Report {
@@ -83,23 +60,12 @@ pub struct Stepped {
     pub run: Run,
 }
 
-// Every entry waiting with 0 given.
-fn fresh_entries() -> [Entry; plan::JOBS]
-    ensures { λ r. ⌜ r ≡ replicate maxJobs freshEntry ⌝ }
-{
-    let e = Entry {
-        standing: Standing::Waiting,
-        given: 0,
-    };
-    [e; plan::JOBS]
-}
-
 // What a refused start hands back: the blank plan at border 0, every entry waiting with 0 given.
 pub fn blank_run() -> Run
     ensures { λ r. ⌜ r ≡ blankRun ⌝ }
 {
     let p = plan::blank_plan();
-    let job = fresh_entries();
+    let entry = entries::fresh_entries();
     let hi = [0i32; intervals::INTERVALS];
     let lo = [0i32; intervals::INTERVALS];
     Run {
@@ -108,7 +74,7 @@ pub fn blank_run() -> Run
         phase: Phase::T,
         hi: hi,
         lo: lo,
-        job: job,
+        entry: entry,
     }
 }
 
@@ -127,14 +93,14 @@ pub fn start(p: Plan) -> Started
     }
     let hi = analysis.hi;
     let lo = analysis.lo;
-    let job = fresh_entries();
+    let entry = entries::fresh_entries();
     let run = Run {
         plan: p,
         t: 0,
         phase: Phase::T,
         hi: hi,
         lo: lo,
-        job: job,
+        entry: entry,
     };
     Started {
         answer: Answer::Accepted,

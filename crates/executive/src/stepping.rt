@@ -3,20 +3,54 @@ ghost use mathlib.Core.Path.{_≡_};
 ghost use Prim.Native.Nat.{_≤_, _<_};
 ghost use lib.ListN.{take};
 ghost use Rattle.plan.specs.Limits.{maxSlots, maxJobs};
-ghost use Rattle.executive.specs.Step.{reported, expiredEntries, expired, overrun, everySettled, canReturn, phaseAfter, judged};
+ghost use Rattle.plan.specs.Counts.{maxCount};
+ghost use Rattle.entries.specs.Entry.{ranOn};
+ghost use Rattle.executive.specs.Step.{kindFits, reported, expiredEntries, expired, overrun, everySettled, canReturn, phaseAfter, judged};
 ghost use Rattle.executive.specs.Sound.{Listed, Countable};
-use crate::Entry;
-use crate::Kind;
 use crate::Phase;
 use crate::Run;
-use crate::Slot;
-use crate::entries::expired_entry;
-use crate::entries::past_lo;
-use crate::entries::ran_on;
-use crate::entries::settled;
-use crate::ready::index;
+use entries::Entry;
+use entries::Kind;
+use entries::expired_entry;
+use entries::past_lo;
+use entries::settled;
+use entries::standing_after;
 use plan::JOBS;
 use plan::Job;
+use ready::Slot;
+use ready::index;
+
+// `end` and `more` belong to a slot with a job, `none` to an idle one.
+pub(crate) fn kind_fits(slot: Slot, kind: Kind) -> bool
+    ensures { λ r. ⌜ r ≡ kindFits slot kind ⌝ }
+{
+    match slot {
+        Slot::Job(_) => match kind {
+            Kind::End => true,
+            Kind::More => true,
+            Kind::None => false,
+        },
+        Slot::Idle => match kind {
+            Kind::End => false,
+            Kind::More => false,
+            Kind::None => true,
+        },
+    }
+}
+
+// The entry of the job that ran: one slot more given.
+fn ran_on(kind: Kind, border: u16, j: Job, e: Entry) -> Entry
+    requires { ⌜ e .given < maxCount ⌝ }
+    ensures { λ r. ⌜ r ≡ ranOn kind border j e ⌝ }
+{
+    let given = e.given + 1;
+    let before = e.standing;
+    let standing = standing_after(kind, j.hi, given, border, before);
+    Entry {
+        standing: standing,
+        given: given,
+    }
+}
 
 // The entries after the first n jobs have met border t; those beyond them stay.
 fn expired_entries(t: u16, job: [Job; JOBS], before: [Entry; JOBS], n: usize) -> [Entry; JOBS]
@@ -67,13 +101,13 @@ impl Run {
         let i = index(k);
         let p = self.plan;
         let job = p.job;
-        let mut entry = self.job;
+        let mut entry = self.entry;
         let j = job[i];
         let e = entry[i];
         let ran = ran_on(kind, border, j, e);
         entry[i] = ran;
         let mut next = self;
-        next.job = entry;
+        next.entry = entry;
         next.t = border;
         next
     }
@@ -86,10 +120,10 @@ impl Run {
         let p = self.plan;
         let n = p.jobs as usize;
         let job = p.job;
-        let entry = self.job;
+        let entry = self.entry;
         let left = expired_entries(self.t, job, entry, n);
         let mut next = self;
-        next.job = left;
+        next.entry = left;
         next
     }
 
@@ -104,7 +138,7 @@ impl Run {
         let i = index(k);
         let p = self.plan;
         let job = p.job;
-        let entry = self.job;
+        let entry = self.entry;
         let j = job[i];
         let e = entry[i];
         past_lo(j, e)
@@ -119,7 +153,7 @@ impl Run {
         let counts = plan::counts_at(p, self.t);
         let n = p.jobs as usize;
         let job = p.job;
-        let entry = self.job;
+        let entry = self.entry;
         every_settled(job, entry, counts, n)
     }
 

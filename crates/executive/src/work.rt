@@ -4,8 +4,8 @@ ghost use Prim.Native.Nat.{_≤_};
 ghost use lib.ListN.{take};
 ghost use Rattle.plan.specs.Limits.{maxJobs};
 ghost use Rattle.executive.specs.Work.{workOf};
-use crate::Entry;
-use crate::entries::is_live;
+use entries::Entry;
+use entries::is_live;
 use plan::JOBS;
 use plan::Job;
 

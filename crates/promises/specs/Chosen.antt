@@ -6,11 +6,12 @@ use mathlib.Core.Bool.{true, false}
 use Rattle.plan.specs.declared.Job.{Job}
 use Rattle.plan.specs.declared.Plan.{Plan}
 use Rattle.plan.specs.Plan.{jobNo, isHi}
-use Rattle.acceptance_promise.specs.Promise.{JobOf}
 use Rattle.executive.specs.declared.Run.{Run}
-use Rattle.executive.specs.declared.Slot.{Slot}
-use Rattle.executive.specs.Run.{live, entryNo}
-use Rattle.executive.specs.Choice.{goesBefore}
+use Rattle.executive.specs.Run.{entryNo}
+use Rattle.well_formed.specs.InOrder.{JobOf}
+use Rattle.ready.specs.declared.Slot.{Slot}
+use Rattle.entries.specs.Entry.{live}
+use Rattle.ready.specs.Ready.{goesBefore}
 
 -- job m leads job k: least d, then HI before LO, then the lower number
 abbrev pub Leads : Plan → ℕ → ℕ → Type 0

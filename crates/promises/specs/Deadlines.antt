@@ -9,18 +9,20 @@ use mathlib.Core.List.{List}
 use lib.ListN.{length, getD}
 use Rattle.plan.specs.declared.Plan.{Plan}
 use Rattle.plan.specs.Plan.{jobNo, isHi, naming}
-use Rattle.acceptance_promise.specs.Promise.{JobOf, jobAt, InOrder, A2}
 use Rattle.words.specs.Cases.{never}
-use Rattle.acceptance_promise.specs.InOrderLaws.{place-of}
 use Rattle.acceptance_promise.specs.Laws.{passes-in-order, accepted-has}
+use Rattle.well_formed.specs.InOrder.{jobAt, InOrder, JobOf}
+use Rattle.spare_theory.specs.Promise.{A2}
+use Rattle.well_formed.specs.InOrderLaws.{place-of}
 use Rattle.executive.specs.declared.Run.{Run}
 use Rattle.executive.specs.declared.Report.{Report}
-use Rattle.executive.specs.Run.{entryNo, waiting}
+use Rattle.executive.specs.Run.{entryNo}
+use Rattle.entries.specs.Entry.{waiting}
 use Rattle.executive.specs.Choice.{chosen}
 use Rattle.executive.specs.Step.{nextRun}
-use Rattle.executive.specs.declared.Standing.{Standing}
-use Rattle.executive.specs.declared.Standing.the-variants.{Waiting, Finished, Cut, Dropped}
 use Rattle.promises.specs.Demands.{Event, jobsRun, Demand3a, Demand3b, FinishedInTime, HadWholeBudget, Reached, started, stepped}
+use Rattle.entries.specs.declared.Standing.{Standing}
+use Rattle.entries.specs.declared.Standing.the-variants.{Waiting, Finished, Cut, Dropped}
 use Rattle.promises.specs.Runs.{Taken, entryAt, givenAt, Kept}
 use Rattle.promises.specs.Ends.{EndTells, MetIn}
 use Rattle.promises.specs.NextLaws.{next-plan, given-within}

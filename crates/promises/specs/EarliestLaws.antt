@@ -14,14 +14,14 @@ use Rattle.words.specs.Cases.{by-test, never}
 use Rattle.plan.specs.declared.Job.{Job}
 use Rattle.plan.specs.declared.Plan.{Plan}
 use Rattle.plan.specs.Plan.{jobsOf, jobNo, isHi, blankJob}
-use Rattle.acceptance_promise.specs.Promise.{JobOf}
-use Rattle.executive.specs.declared.Entry.{Entry}
-use Rattle.executive.specs.declared.Slot.{Slot}
-use Rattle.executive.specs.Run.{freshEntry}
+use Rattle.entries.specs.declared.Entry.{Entry}
+use Rattle.ready.specs.declared.Slot.{Slot}
+use Rattle.entries.specs.Entry.{freshEntry}
 use Rattle.words.specs.ZipLaws.{zipped-at}
-use Rattle.executive.specs.Choice.{earliest, goesBefore, better, earliestFrom}
+use Rattle.ready.specs.Ready.{earliest, goesBefore, better, earliestFrom}
 use Rattle.promises.specs.Chosen.{Leads, EarliestOf}
 use Rattle.promises.specs.General.{zip-member}
+use Rattle.well_formed.specs.InOrder.{JobOf}
 
 -- ---- the order
 
@@ -110,7 +110,7 @@ module _ (p : Plan) where
 
   -- the best of `b` and the members from k on
   abbrev BestFrom : ℕ → ℕ → List Bool → Type 0
-  BestFrom b k bs = (m : ℕ) × (earliestFrom p (Slot.Job b) k bs ≡ Slot.Job m) × ((m ≡ b) ⊎ MemberFrom k bs m) × Ahead m b × FirstFrom k bs m
+  BestFrom b k bs = (m : ℕ) × (earliestFrom (p .job) (Slot.Job b) k bs ≡ Slot.Job m) × ((m ≡ b) ⊎ MemberFrom k bs m) × Ahead m b × FirstFrom k bs m
 
   best-from : (b k : ℕ) (bs : List Bool) → b < k → BestFrom b k bs
   unfolding earliestFrom better
@@ -133,8 +133,8 @@ module _ (p : Plan) where
   -- of the members alone
   abbrev EarliestFrom : ℕ → List Bool → Type 0
   EarliestFrom k bs =
-      ((earliestFrom p Slot.Idle k bs ≡ Slot.Idle) × ((i : ℕ) → getD bs i false ≡ true → ⊥))
-      ⊎ ((m : ℕ) × (earliestFrom p Slot.Idle k bs ≡ Slot.Job m) × MemberFrom k bs m × FirstFrom k bs m)
+      ((earliestFrom (p .job) Slot.Idle k bs ≡ Slot.Idle) × ((i : ℕ) → getD bs i false ≡ true → ⊥))
+      ⊎ ((m : ℕ) × (earliestFrom (p .job) Slot.Idle k bs ≡ Slot.Job m) × MemberFrom k bs m × FirstFrom k bs m)
 
   earliest-from : (k : ℕ) (bs : List Bool) → EarliestFrom k bs
   unfolding earliestFrom better
@@ -176,7 +176,7 @@ module _ (p : Plan) (es : List Entry) (js-fit : p .jobs ≤ length (p .job)) (es
       let m : k - 1 < p .jobs = omega arith in
       zipped-at test (p .job) es (p .jobs) js-fit es-fit (k - 1) blankJob freshEntry false m ∙ h
 
-  pub earliest-of : EarliestOf p (λ k. test (jobNo p k) (getD es (k - 1) freshEntry) ≡ true) (earliest p (zipWith test (jobsOf p) es))
+  pub earliest-of : EarliestOf p (λ k. test (jobNo p k) (getD es (k - 1) freshEntry) ≡ true) (earliest (p .job) (zipWith test (jobsOf p) es))
   unfolding earliest
   earliest-of =
       ⊎-elim

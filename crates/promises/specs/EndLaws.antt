@@ -10,17 +10,16 @@ use borrow.Author.Tests.{leb-true, ne-eqb, eqb-true}
 use Rattle.words.specs.Words.{if_then_else_, _≤?_, _=?_}
 use Rattle.plan.specs.declared.Job.{Job}
 use Rattle.plan.specs.Plan.{isHi, naming}
-use Rattle.executive.specs.declared.Entry.{Entry}
+use Rattle.entries.specs.declared.Entry.{Entry}
 use Rattle.executive.specs.declared.Phase.{Phase}
 use Rattle.executive.specs.declared.Phase.the-variants.{H}
-use Rattle.executive.specs.Run.{live, waiting}
-use Rattle.executive.specs.Step.{standingAfter, ranOn}
-use Rattle.executive.specs.declared.Standing.{Standing}
-use Rattle.executive.specs.declared.Standing.the-variants.{Waiting, Finished, Cut, Dropped}
-use Rattle.executive.specs.declared.Kind.{Kind}
-use Rattle.executive.specs.declared.Kind.the-variants.{End, More, None}
 use Rattle.promises.specs.Told.{jobRun, firstEnd, leftAlone}
 use Rattle.promises.specs.Demands.{Event, event, jobsRun, phaseAt}
+use Rattle.entries.specs.Entry.{live, waiting, standingAfter, ranOn}
+use Rattle.entries.specs.declared.Standing.{Standing}
+use Rattle.entries.specs.declared.Standing.the-variants.{Waiting, Finished, Cut, Dropped}
+use Rattle.entries.specs.declared.Kind.{Kind}
+use Rattle.entries.specs.declared.Kind.the-variants.{End, More, None}
 use Rattle.promises.specs.Ends.{EndTells, DropTells}
 use Rattle.promises.specs.Runs.{entryAfter, reportedEntry}
 use Rattle.promises.specs.NextLaws.{expired-given, expired-stands}

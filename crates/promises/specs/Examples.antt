@@ -6,11 +6,10 @@ use mathlib.Core.List.{List}
 use lib.ListN.{length}
 use Rattle.answers.specs.declared.Answer.the-variants.{Accepted, Overdrawn, Incoherent, Over, OtherSlot, WrongKind}
 use Rattle.acceptance_promise.specs.Plans.{A, B, oneSlot}
-use Rattle.executive.specs.declared.Standing.the-variants.{Finished, Cut}
 use Rattle.executive.specs.declared.Phase.the-variants.{T}
-use Rattle.executive.specs.declared.Slot.{Slot}
-use Rattle.executive.specs.declared.Kind.{Kind}
-use Rattle.executive.specs.declared.Kind.the-variants.{End, More, None}
+use Rattle.entries.specs.declared.Standing.the-variants.{Finished, Cut}
+use Rattle.entries.specs.declared.Kind.{Kind}
+use Rattle.entries.specs.declared.Kind.the-variants.{End, More, None}
 use Rattle.executive.specs.declared.Report.{Report}
 use Rattle.executive.specs.declared.Run.{Run}
 use Rattle.executive.specs.Run.{blankRun, start, entryNo}
@@ -23,6 +22,7 @@ use Rattle.promises.specs.Executives.{ours, held}
 use Rattle.promises.specs.Demands.{Event, Reached}
 use Rattle.promises.specs.History.{reached-t}
 use Rattle.promises.specs.AnyExecutive.{every-sequence}
+use Rattle.ready.specs.declared.Slot.{Slot}
 
 -- a report
 abbrev of : ℕ → Kind → Report
@@ -78,7 +78,7 @@ refused-between = (refl, refl, refl)
 pub one-slot-runs :
     let over : Run = held ours oneSlot (none ▷ of 0 More) .run in
     (choose (start oneSlot .run) ≡ record { answer = Accepted; slot = Slot.Job 1; ready = 1 })
-    × (over ≡ record { plan = oneSlot; t = 1; phase = T; hi = noSpares; lo = noSpares; job = over .job })
+    × (over ≡ record { plan = oneSlot; t = 1; phase = T; hi = noSpares; lo = noSpares; entry = over .entry })
     × (entryNo over 1 ≡ record { standing = Cut 1; given = 1 })
     × (choose over ≡ record { answer = Over 1; slot = Slot.Idle; ready = 0 })
     × (step over (of 1 None) ≡ record { answer = Over 1; run = over })

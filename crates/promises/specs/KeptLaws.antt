@@ -16,20 +16,22 @@ use Rattle.plan.specs.declared.Plan.{Plan}
 use Rattle.plan.specs.Limits.{maxJobs}
 use Rattle.plan.specs.Plan.{jobNo, isHi, blankJob, tableAt}
 use Rattle.intervals.specs.Spares.{row, current, hiLeft}
-use Rattle.acceptance_promise.specs.Promise.{JobOf, jobAt, windowsOf, InOrder, A2}
-use Rattle.acceptance_promise.specs.CountLaws.{tab-start}
-use Rattle.acceptance_promise.specs.SpareLaws.{above-exactly}
+use Rattle.well_formed.specs.InOrder.{jobAt, InOrder, JobOf}
+use Rattle.spare_theory.specs.Promise.{windowsOf, A2}
+use Rattle.spare_theory.specs.CountLaws.{tab-start}
+use Rattle.spare_theory.specs.SpareLaws.{above-exactly}
 use Rattle.acceptance_promise.specs.OneSlot.{hiRemaining, OnTable, SlotTo, TableFirst, NoHiReady}
 use Rattle.acceptance_promise.specs.OneSlotLaws.{high-met, stays-on-table, table-feasible, overrun-feasible, earliest-feasible, nobody-feasible, spare-feasible}
-use Rattle.executive.specs.declared.Entry.{Entry}
+use Rattle.entries.specs.declared.Entry.{Entry}
 use Rattle.executive.specs.declared.Phase.{Phase}
 use Rattle.executive.specs.declared.Phase.the-variants.{T, H}
 use Rattle.executive.specs.declared.Run.{Run}
 use Rattle.executive.specs.declared.Report.{Report}
-use Rattle.executive.specs.Run.{live, freshEntry, freshHi, hiWork, currentHi, newRun}
+use Rattle.entries.specs.Entry.{live, freshEntry, standingHolds}
+use Rattle.executive.specs.Run.{freshHi, hiWork, currentHi, newRun}
 use Rattle.words.specs.ZipLaws.{zipped-at}
-use Rattle.executive.specs.Coherent.{standingHolds}
-use Rattle.executive.specs.Choice.{chosen, earliest, readyHi}
+use Rattle.executive.specs.Choice.{chosen, readyHi}
+use Rattle.ready.specs.Ready.{earliest}
 use Rattle.executive.specs.Step.{overrun, canReturn, phaseAfter, nextRun}
 use Rattle.promises.specs.Told.{jobRun}
 use Rattle.promises.specs.Runs.{entryAfter, Taken, Recorded, entryAt, givenAt, liveAt, Kept}
@@ -91,7 +93,7 @@ module _ (r : Run) (w : Recorded r) (report : Report) (ok : Taken r report) wher
       let c = chosen-is-ready r w (ok .more) (suc k) (own-slot (chosen r) (suc k) (omega arith) (eq-eqb who (suc k) e)) in
       (c .0 .1, rw (number-place k) at (c .1 .0), rw (number-place k) at (c .1 .1))
 
-  next-fits : next .plan .jobs ≤ length (next .job)
+  next-fits : next .plan .jobs ≤ length (next .entry)
   next-fits = rw (next-plan r (chosen r) (report .kind), next-length r (chosen r) (report .kind)) (es-fit r w)
 
   -- no job has a slot before its release
@@ -159,7 +161,7 @@ module _ (r : Run) (w : Recorded r) (report : Report) (ok : Taken r report) wher
   -- the work of the HI row is the HI work left
   work-at : (k : ℕ) → k < r .plan .jobs → getD (hiWork r) k 0 ≡ hiRemaining (r .plan) (givenAt r) (liveAt r) k
   unfolding hiWork hiRemaining
-  work-at k l = zipped-at (λ j e. hiLeft j (live e) (e .given)) (r .plan .job) (r .job) (r .plan .jobs) (js-fit r w) (es-fit r w) k blankJob freshEntry 0 l
+  work-at k l = zipped-at (λ j e. hiLeft j (live e) (e .given)) (r .plan .job) (r .entry) (r .plan .jobs) (js-fit r w) (es-fit r w) k blankJob freshEntry 0 l
 
   -- the current HI spare is above 0: one slot to spare
   slot-to-spare : Feasible (windowsOf (r .plan)) (r .t) (hiRemaining (r .plan) (givenAt r) (liveAt r))
@@ -185,7 +187,7 @@ module _ (r : Run) (w : Recorded r) (report : Report) (ok : Taken r report) wher
       none-ready none k l high alive released =
           none (suc k) (job-of-place (r .plan) k l) (rw (number-place k) high, (rw (number-place k) alive, rw (number-place k) released))
 
-      hurried : chosen r ≡ earliest (r .plan) (readyHi r) → Room
+      hurried : chosen r ≡ earliest (r .plan .job) (readyHi r) → Room
       hurried e =
           ⊎-elim
           (λ c. nobody-feasible (r .plan) (r .t) (givenAt r) (givenAt next) (liveAt r) (liveAt next) now who (none-ready (c .1)) slot-to)

@@ -13,22 +13,22 @@ use Rattle.plan.specs.declared.Job.{Job}
 use Rattle.words.specs.Words.{if_then_else_, _≤?_, _=?_}
 use Rattle.plan.specs.Plan.{jobsOf, jobNo, isHi, blankJob}
 use Rattle.words.specs.Cases.{both-hold}
-use Rattle.acceptance_promise.specs.Promise.{JobOf}
-use Rattle.executive.specs.declared.Standing.{Standing}
-use Rattle.executive.specs.declared.Standing.the-variants.{Waiting, Finished, Cut, Dropped}
-use Rattle.executive.specs.declared.Entry.{Entry}
+use Rattle.entries.specs.declared.Standing.{Standing}
+use Rattle.entries.specs.declared.Standing.the-variants.{Waiting, Finished, Cut, Dropped}
+use Rattle.entries.specs.declared.Entry.{Entry}
 use Rattle.executive.specs.declared.Phase.{Phase}
 use Rattle.executive.specs.declared.Phase.the-variants.{T, H}
 use Rattle.executive.specs.declared.Run.{Run}
-use Rattle.executive.specs.declared.Slot.{Slot}
-use Rattle.executive.specs.declared.Kind.{Kind}
-use Rattle.executive.specs.declared.Kind.the-variants.{End, More, None}
-use Rattle.executive.specs.Run.{live, waiting, entryNo, freshEntry, freshHi, freshLo, hiWork, loWork}
-use Rattle.executive.specs.Coherent.{standingHolds}
-use Rattle.executive.specs.Step.{standingAfter, ranOn, entriesAfter, reported, expiredEntry, expiredEntries, expired, overrun, canReturn, phaseAfter, judged, refreshed, nextRun}
+use Rattle.executive.specs.Run.{entryNo, freshHi, freshLo, hiWork, loWork}
+use Rattle.executive.specs.Step.{entriesAfter, reported, expiredEntries, expired, overrun, canReturn, phaseAfter, judged, refreshed, nextRun}
 use Rattle.promises.specs.Told.{jobRun, firstEnd, leftAlone}
 use Rattle.promises.specs.Runs.{reportedEntry, entryAfter}
+use Rattle.ready.specs.declared.Slot.{Slot}
+use Rattle.entries.specs.declared.Kind.{Kind}
+use Rattle.entries.specs.declared.Kind.the-variants.{End, More, None}
+use Rattle.entries.specs.Entry.{live, waiting, freshEntry, standingHolds, standingAfter, ranOn, expiredEntry}
 use Rattle.promises.specs.General.{joined}
+use Rattle.well_formed.specs.InOrder.{JobOf}
 
 -- ---- the whole record
 
@@ -41,7 +41,7 @@ module _ (r : Run) (slot : Slot) (kind : Kind) where
   unfolding nextRun refreshed judged expired reported
   next-t = refl
 
-  pub next-job : nextRun r slot kind .job ≡ expiredEntries (r .t + 1) (jobsOf (r .plan)) (entriesAfter r slot kind)
+  pub next-job : nextRun r slot kind .entry ≡ expiredEntries (r .t + 1) (jobsOf (r .plan)) (entriesAfter r slot kind)
   unfolding nextRun refreshed judged expired reported
   next-job = refl
 
@@ -81,15 +81,15 @@ length-expired t [] es = refl
 length-expired t (j ∷ js) [] = refl
 length-expired t (j ∷ js) (e ∷ es) = ap suc (length-expired t js es)
 
-length-entries : (r : Run) (slot : Slot) (kind : Kind) → length (entriesAfter r slot kind) ≡ length (r .job)
+length-entries : (r : Run) (slot : Slot) (kind : Kind) → length (entriesAfter r slot kind) ≡ length (r .entry)
 length-entries r Slot.Idle kind = refl
-length-entries r (Slot.Job k) kind = length-set (r .job) (k - 1) (ranOn kind (r .t + 1) (jobNo (r .plan) k) (entryNo r k))
+length-entries r (Slot.Job k) kind = length-set (r .entry) (k - 1) (ranOn kind (r .t + 1) (jobNo (r .plan) k) (entryNo r k))
 
 -- there are as many entries as before
-pub next-length : (r : Run) (slot : Slot) (kind : Kind) → length (nextRun r slot kind .job) ≡ length (r .job)
+pub next-length : (r : Run) (slot : Slot) (kind : Kind) → length (nextRun r slot kind .entry) ≡ length (r .entry)
 next-length r slot kind = rw (next-job r slot kind, length-expired) (length-entries r slot kind)
 
-module _ (r : Run) (kind : Kind) (k : ℕ) (l : JobOf (r .plan) k) (es-fit : r .plan .jobs ≤ length (r .job)) where
+module _ (r : Run) (kind : Kind) (k : ℕ) (l : JobOf (r .plan) k) (es-fit : r .plan .jobs ≤ length (r .entry)) where
   -- the report is applied to its own job
   reported-at : (slot : Slot) → ((m : ℕ) → slot ≡ Slot.Job m → 1 ≤ m)
       → getD (entriesAfter r slot kind) (k - 1) freshEntry ≡ (if jobRun slot =? k then ranOn kind (r .t + 1) (jobNo (r .plan) k) (entryNo r k) else entryNo r k)
@@ -97,16 +97,16 @@ module _ (r : Run) (kind : Kind) (k : ℕ) (l : JobOf (r .plan) k) (es-fit : r .
   reported-at (Slot.Job m) named = go (ℕ-discrete m k)
     where
       go : Dec (m ≡ k)
-          → getD (set (r .job) (m - 1) (ranOn kind (r .t + 1) (jobNo (r .plan) m) (entryNo r m))) (k - 1) freshEntry
+          → getD (set (r .entry) (m - 1) (ranOn kind (r .t + 1) (jobNo (r .plan) m) (entryNo r m))) (k - 1) freshEntry
           ≡ (if m =? k then ranOn kind (r .t + 1) (jobNo (r .plan) k) (entryNo r k) else entryNo r k)
       go (yes e) =
           let a = l .0 in
           let b = l .1 in
-          rw (eq-eqb m k e, e) (getD-set-same (r .job) (k - 1) (ranOn kind (r .t + 1) (jobNo (r .plan) k) (entryNo r k)) freshEntry (omega arith))
+          rw (eq-eqb m k e, e) (getD-set-same (r .entry) (k - 1) (ranOn kind (r .t + 1) (jobNo (r .plan) k) (entryNo r k)) freshEntry (omega arith))
       go (no e) =
           let a = l .0 in
           let b = named m refl in
-          rw (ne-eqb m k e) (getD-set-other (r .job) (m - 1) (k - 1) (ranOn kind (r .t + 1) (jobNo (r .plan) m) (entryNo r m)) freshEntry (λ q. e (omega arith)))
+          rw (ne-eqb m k e) (getD-set-other (r .entry) (m - 1) (k - 1) (ranOn kind (r .t + 1) (jobNo (r .plan) m) (entryNo r m)) freshEntry (λ q. e (omega arith)))
 
   -- the entry of job k in the next run
   pub entry-next : (slot : Slot) → ((m : ℕ) → slot ≡ Slot.Job m → 1 ≤ m) → r .plan .jobs ≤ length (r .plan .job)

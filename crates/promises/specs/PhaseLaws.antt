@@ -14,15 +14,16 @@ use Rattle.plan.specs.declared.Plan.{Plan}
 use Rattle.plan.specs.Limits.{maxJobs}
 use Rattle.plan.specs.CountLaws.{counts-length, counts-at}
 use Rattle.plan.specs.Plan.{jobsOf, jobNo, isHi, blankJob, countsAt}
-use Rattle.acceptance_promise.specs.Promise.{JobOf, jobAt, tab}
+use Rattle.well_formed.specs.InOrder.{jobAt, tab, JobOf}
 use Rattle.words.specs.Cases.{both-hold}
 use Rattle.acceptance_promise.specs.OneSlot.{OnTable}
-use Rattle.executive.specs.declared.Entry.{Entry}
+use Rattle.entries.specs.declared.Entry.{Entry}
 use Rattle.executive.specs.declared.Phase.the-variants.{T, H}
 use Rattle.executive.specs.declared.Run.{Run}
-use Rattle.executive.specs.declared.Slot.{Slot}
-use Rattle.executive.specs.Run.{live, entryNo, freshEntry}
-use Rattle.executive.specs.Step.{pastLo, overrun, settled, everySettled, canReturn}
+use Rattle.executive.specs.Run.{entryNo}
+use Rattle.executive.specs.Step.{overrun, everySettled, canReturn}
+use Rattle.ready.specs.declared.Slot.{Slot}
+use Rattle.entries.specs.Entry.{live, freshEntry, pastLo, settled}
 use Rattle.promises.specs.Runs.{entryAt, givenAt, liveAt}
 
 -- ---- places and numbers
@@ -75,7 +76,7 @@ settled-says j e count h alive =
     (leb-true count (e .given) (w .0), λ high. past-lo-no j e (not-true (pastLo j e) (w .1)) alive high)
 
 -- a run that can return is on the table
-pub return-on-table : (s : Run) → s .plan .jobs ≤ length (s .plan .job) → s .plan .jobs ≤ length (s .job) → s .plan .jobs ≤ maxJobs
+pub return-on-table : (s : Run) → s .plan .jobs ≤ length (s .plan .job) → s .plan .jobs ≤ length (s .entry) → s .plan .jobs ≤ maxJobs
     → canReturn s ≡ true → OnTable (s .plan) (s .t) (givenAt s) (liveAt s)
 unfolding canReturn
 return-on-table s a b c h = record { ahead = λ k l alive. says k l alive .0; early = λ k l alive high. says k l alive .1 high }
@@ -85,5 +86,5 @@ return-on-table s a b c h = record { ahead = λ k l alive. says k l alive .0; ea
         let x : k < length (jobsOf (s .plan)) = rw (length-take-le (s .plan .jobs) (s .plan .job) a) l in
         let y : k < length (countsAt (s .plan) (s .t)) = rw (counts-length (s .plan) (s .t)) (omega arith) in
         let e : 1 + k ≡ suc k = omega arith in
-        let q = every-settled (jobsOf (s .plan)) (s .job) (countsAt (s .plan) (s .t)) h k x (omega arith) y in
+        let q = every-settled (jobsOf (s .plan)) (s .entry) (countsAt (s .plan) (s .t)) h k x (omega arith) y in
         settled-says (jobAt (s .plan) k) (entryAt s k) (tab (s .plan) k (s .t)) (rw (getD-take (s .plan .jobs) (s .plan .job) k blankJob l, counts-at (s .plan) (s .t) k (omega arith), e) at q) alive

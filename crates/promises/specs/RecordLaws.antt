@@ -17,21 +17,25 @@ use Rattle.plan.specs.declared.Plan.{Plan}
 use Rattle.plan.specs.Limits.{maxJobs}
 use Rattle.plan.specs.Plan.{jobsOf, jobNo, blankJob}
 use Rattle.intervals.specs.Spares.{hiLeft, loLeft}
-use Rattle.acceptance.specs.Acceptance.{wellFormed, acceptance, check8, check9}
-use Rattle.acceptance_promise.specs.Promise.{JobOf, Sized, InOrder}
+use Rattle.acceptance.specs.Acceptance.{acceptance, check9}
 use Rattle.answers.specs.RefusalLaws.{unless-holds, both-accept}
 use Rattle.acceptance_promise.specs.Laws.{passes-in-order}
 use Rattle.acceptance_promise.specs.AnswerLaws.{is-accepted}
+use Rattle.well_formed.specs.WellFormed.{wellFormed}
+use Rattle.window_sums.specs.WindowSums.{check8}
+use Rattle.well_formed.specs.InOrder.{InOrder, JobOf, Sized}
 use Rattle.executive.specs.declared.Run.{Run}
-use Rattle.executive.specs.declared.Slot.{Slot}
+use Rattle.ready.specs.declared.Slot.{Slot}
 use Rattle.executive.specs.declared.Report.{Report}
-use Rattle.executive.specs.Run.{live, entryNo, freshEntry, freshHi, hiWork, newRun, freshLo, loWork, start}
-use Rattle.executive.specs.Coherent.{standingHolds, entriesHold, sameSpare, sameRow, coherent}
-use Rattle.executive.specs.Choice.{chosen, ready, choose, canGoOn, howMany}
+use Rattle.entries.specs.Entry.{live, freshEntry, standingHolds}
+use Rattle.executive.specs.Run.{entryNo, freshHi, hiWork, newRun, freshLo, loWork, start}
+use Rattle.executive.specs.Coherent.{entriesHold, sameSpare, sameRow, coherent}
+use Rattle.executive.specs.Choice.{chosen, ready, choose, canGoOn}
+use Rattle.ready.specs.Ready.{howMany}
 use Rattle.executive.specs.Step.{nextRun, kindFits, reportAnswer, step}
-use Rattle.executive.specs.declared.Kind.{Kind}
-use Rattle.executive.specs.declared.Kind.the-variants.{None}
 use Rattle.promises.specs.Told.{jobRun}
+use Rattle.entries.specs.declared.Kind.{Kind}
+use Rattle.entries.specs.declared.Kind.the-variants.{None}
 use Rattle.promises.specs.Runs.{entryAfter, Taken, Recorded}
 use Rattle.promises.specs.Chosen.{Ready}
 use Rattle.promises.specs.General.{joined, zip-every}
@@ -94,15 +98,15 @@ module _ (r : Run) (w : Recorded r) where
   pub js-fit : r .plan .jobs ≤ length (r .plan .job)
   js-fit = let a = w .order .jobs .1 in let b = w .sized .0 in omega arith
 
-  pub es-fit : r .plan .jobs ≤ length (r .job)
+  pub es-fit : r .plan .jobs ≤ length (r .entry)
   es-fit = let a = w .order .jobs .1 in let b = w .long in omega arith
 
   entries-hold : entriesHold r ≡ true
   unfolding entriesHold
-  entries-hold = zip-every (λ j e. standingHolds (r .t) (j .hi) (e .given) (e .standing)) blankJob freshEntry (jobsOf (r .plan)) (r .job) each
+  entries-hold = zip-every (λ j e. standingHolds (r .t) (j .hi) (e .given) (e .standing)) blankJob freshEntry (jobsOf (r .plan)) (r .entry) each
     where
-      each : (i : ℕ) → i < length (jobsOf (r .plan)) → i < length (r .job)
-          → standingHolds (r .t) (getD (jobsOf (r .plan)) i blankJob .hi) (getD (r .job) i freshEntry .given) (getD (r .job) i freshEntry .standing) ≡ true
+      each : (i : ℕ) → i < length (jobsOf (r .plan)) → i < length (r .entry)
+          → standingHolds (r .t) (getD (jobsOf (r .plan)) i blankJob .hi) (getD (r .entry) i freshEntry .given) (getD (r .entry) i freshEntry .standing) ≡ true
       each i l m =
           let h : i < r .plan .jobs = rw (length-take-le (r .plan .jobs) (r .plan .job) js-fit) at l in
           let e : suc i - 1 ≡ i = omega arith in

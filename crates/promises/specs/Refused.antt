@@ -18,7 +18,7 @@ use Rattle.lines.specs.Lines.{Read, got, refused}
 use Rattle.plan_text.specs.Read.{planRead, readPlan, onlyPlan, startOf}
 use Rattle.plan_text.specs.Write.{writeAnswer, writeOut}
 use Rattle.executive.specs.declared.Run.{Run}
-use Rattle.executive.specs.declared.Slot.{Slot}
+use Rattle.ready.specs.declared.Slot.{Slot}
 use Rattle.executive.specs.declared.Report.{Report}
 use Rattle.executive.specs.Run.{start, blankRun}
 use Rattle.executive.specs.Coherent.{coherent}

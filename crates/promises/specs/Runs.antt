@@ -12,18 +12,20 @@ use Rattle.plan.specs.declared.Job.{Job}
 use Rattle.plan.specs.declared.Plan.{Plan}
 use Rattle.plan.specs.Limits.{maxJobs}
 use Rattle.plan.specs.Plan.{jobNo, isHi}
-use Rattle.acceptance.specs.Acceptance.{wellFormed}
-use Rattle.acceptance_promise.specs.Promise.{JobOf, Sized, jobAt, windowsOf, InOrder}
+use Rattle.well_formed.specs.WellFormed.{wellFormed}
+use Rattle.well_formed.specs.InOrder.{jobAt, InOrder, JobOf, Sized}
+use Rattle.spare_theory.specs.Promise.{windowsOf}
 use Rattle.acceptance_promise.specs.OneSlot.{hiRemaining, OnTable}
-use Rattle.executive.specs.declared.Entry.{Entry}
+use Rattle.entries.specs.declared.Entry.{Entry}
 use Rattle.executive.specs.declared.Phase.the-variants.{T}
 use Rattle.executive.specs.declared.Run.{Run}
-use Rattle.executive.specs.declared.Kind.{Kind}
+use Rattle.entries.specs.declared.Kind.{Kind}
 use Rattle.executive.specs.declared.Report.{Report}
-use Rattle.executive.specs.Run.{live, entryNo, freshEntry, freshHi, freshLo}
-use Rattle.executive.specs.Coherent.{standingHolds, coherent}
+use Rattle.entries.specs.Entry.{live, freshEntry, standingHolds, ranOn, expiredEntry}
+use Rattle.executive.specs.Run.{entryNo, freshHi, freshLo}
+use Rattle.executive.specs.Coherent.{coherent}
 use Rattle.executive.specs.Choice.{chosen}
-use Rattle.executive.specs.Step.{ranOn, expiredEntry, kindFits}
+use Rattle.executive.specs.Step.{kindFits}
 use Rattle.promises.specs.Demands.{Event, event, Reached}
 
 -- ---- one step
@@ -59,7 +61,7 @@ pub record Recorded (r : Run) : Type 0 where
   pub well : accepted (wellFormed (r .plan)) ≡ true
   pub sized : Sized (r .plan)
   pub order : InOrder (r .plan)
-  pub long : length (r .job) ≡ maxJobs
+  pub long : length (r .entry) ≡ maxJobs
   pub time : r .t ≤ r .plan .slots
   pub holds : (k : ℕ) → JobOf (r .plan) k → standingHolds (r .t) (jobNo (r .plan) k .hi) (entryNo r k .given) (entryNo r k .standing) ≡ true
   pub hi : r .hi ≡ freshHi r
@@ -67,7 +69,7 @@ pub record Recorded (r : Run) : Type 0 where
 
 -- the entry at place k: the slots that job has been given, and whether it is live
 abbrev pub entryAt : Run → ℕ → Entry
-entryAt r k = getD (r .job) k freshEntry
+entryAt r k = getD (r .entry) k freshEntry
 
 abbrev pub givenAt : Run → ℕ → ℕ
 givenAt r k = entryAt r k .given

@@ -11,11 +11,11 @@ use Rattle.intervals.specs.Spares.{row}
 use Rattle.acceptance.specs.Acceptance.{acceptance}
 use Rattle.acceptance.specs.Analysis.{hiAtStart, loAtStart}
 use Rattle.acceptance_promise.specs.Plans.{A, B, C, one, borrowing}
-use Rattle.executive.specs.declared.Standing.the-variants.{Dropped}
+use Rattle.entries.specs.declared.Standing.the-variants.{Dropped}
 use Rattle.executive.specs.declared.Phase.the-variants.{T, H}
-use Rattle.executive.specs.declared.Slot.{Slot}
-use Rattle.executive.specs.declared.Kind.{Kind}
-use Rattle.executive.specs.declared.Kind.the-variants.{End, More, None}
+use Rattle.ready.specs.declared.Slot.{Slot}
+use Rattle.entries.specs.declared.Kind.{Kind}
+use Rattle.entries.specs.declared.Kind.the-variants.{End, More, None}
 use Rattle.executive.specs.declared.Run.{Run}
 use Rattle.executive.specs.Run.{start, entryNo, currentHi, currentLo}
 use Rattle.executive.specs.Choice.{chosen}

@@ -1,10 +1,10 @@
 // Runs: a report out of turn, and records of a run that are not coherent.
 use super::print;
-use executive::Entry;
-use executive::Kind;
+use entries::Entry;
+use entries::Kind;
+use entries::Standing;
 use executive::Report;
 use executive::Run;
-use executive::Standing;
 use plan::Plan;
 
 fn plan_a() -> Plan {
@@ -49,13 +49,13 @@ pub(crate) fn incoherent() {
     low.lo[1] = 3;
     stepped(b"LO spare off by one", low, 0, Kind::More);
     let mut given = r;
-    given.job[0] = Entry {
+    given.entry[0] = Entry {
         standing: Standing::Waiting,
         given: 4,
     };
     stepped(b"live with its whole budget", given, 0, Kind::More);
     let mut ended = r;
-    ended.job[1] = Entry {
+    ended.entry[1] = Entry {
         standing: Standing::Finished(1),
         given: 1,
     };

@@ -25,8 +25,8 @@ listed-jobs-requires c κs = search needs
 loop-holds : tie.Need-loop-holds Inv-loop μ-loop
 loop-holds c =
     let s = c .before .before .before in
-    let l : length (s .args .run .job) ≡ 32 = search (needs, long) in
-    (search needs, omega (arith, c .before .listed-jobs .ensures), s .pre, l, piece-is (sym (jobs-none 1 (s .args .run .job))) (piece-none 0 _ (omega arith)))
+    let l : length (s .args .run .entry) ≡ 32 = search (needs, long) in
+    (search needs, omega (arith, c .before .listed-jobs .ensures), s .pre, l, piece-is (sym (jobs-none 1 (s .args .run .entry))) (piece-none 0 _ (omega arith)))
 
 add-put-job-line : tie.Need-add-put-job-line Inv-loop μ-loop
 add-put-job-line c = omega arith

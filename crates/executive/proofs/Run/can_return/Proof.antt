@@ -20,7 +20,7 @@ unfolding canReturn
 returns c =
     let n = c .before .before .before .before in
     let r = n .before .before .args .self in
-    c .every-settled .ensures ∙ ap (everySettled (jobsOf (r .plan)) (r .job)) (n .counts-at .ensures)
+    c .every-settled .ensures ∙ ap (everySettled (jobsOf (r .plan)) (r .entry)) (n .counts-at .ensures)
 
 pub can-return-spec : {M : Type 1} → statement M
 can-return-spec = tie.close (tie.spec counts-at-requires cast-n every-settled-requires returns)

@@ -35,7 +35,7 @@ past-of-requires : tie.Need-past-of-requires
 past-of-requires c κs = search needs
 
 ready-requires : tie.Need-ready-requires
-ready-requires c κs = sound-run (c .before) .few
+ready-requires c κs = search needs
 
 chosen-requires : tie.Need-chosen-requires
 chosen-requires c κs =

@@ -1,7 +1,7 @@
 -- `chosen_h` meets its contract: the current spares say whose set is walked.
 use Rattle.words.specs.ListLaws.{long}
-use Rattle.executive.specs.Ready.{members}
-use Rattle.executive.specs.ReadyLaws.{Full}
+use Rattle.executive.specs.Choice.{members}
+use Rattle.executive.specs.MemberLaws.{Full}
 use Rattle.executive.specs.ChoiceLaws.{open-slot, hi-slot}
 use borrow.Author.Needs.{needs}
 use Rattle.executive.proofs.Run.chosen_h.Statement.{statement}
@@ -22,9 +22,6 @@ returns c =
     let s = a .before .before .before .before .before in
     open-slot (s .args .self) (s .args .place) _ _ _ (s .pre .1) (a .open-to-all .ensures) (full s) (c .before .if1 .taken) (s .pre .2) (c .earliest .ensures)
 
-cast-ready-set : tie.Need-cast-ready-set
-cast-ready-set c = search needs
-
 ready-set-requires : tie.Need-ready-set-requires
 ready-set-requires c κs = search needs
 
@@ -34,7 +31,7 @@ earliest-requires-2 c κs = search needs
 returns-2 : tie.Need-returns-2
 unfolding members
 returns-2 c =
-    let e = c .before .before .before .before in
+    let e = c .before .before .before in
     let a = e .before in
     let s = a .before .before .before .before .before in
     hi-slot (s .args .self) (s .args .place) _ _ _ (s .pre .1) (a .open-to-all .ensures) (full s) (e .if1 .left) (c .before .ready-set .ensures) (c .earliest2 .ensures)
@@ -46,7 +43,6 @@ chosen-h-spec =
     open-to-all-requires
     earliest-requires
     returns
-    cast-ready-set
     ready-set-requires
     earliest-requires-2
     returns-2)

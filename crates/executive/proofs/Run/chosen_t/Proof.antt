@@ -4,7 +4,7 @@ use Prim.Native.Nat.{ℕ}
 use native.Mathlib.Omega.{arith}
 use mathlib.Core.Path.{_≡_, ap}
 use Rattle.words.specs.ListLaws.{long}
-use Rattle.executive.specs.ReadyLaws.{Full}
+use Rattle.executive.specs.MemberLaws.{Full}
 use Rattle.executive.specs.ChoiceLaws.{table-slot, other-slot}
 use borrow.Author.Needs.{needs}
 use Rattle.executive.proofs.Run.chosen_t.Statement.{statement}

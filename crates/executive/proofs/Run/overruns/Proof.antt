@@ -2,7 +2,7 @@
 use native.Mathlib.Omega.{arith}
 use mathlib.Core.Path.{subst}
 use Rattle.executive.specs.Sound.{Listed}
-use Rattle.executive.specs.declared.Slot.{Slot}
+use Rattle.ready.specs.declared.Slot.{Slot}
 use Rattle.executive.specs.Step.{overrun}
 use Rattle.executive.specs.StepLaws.{overran}
 use borrow.Author.Needs.{needs}

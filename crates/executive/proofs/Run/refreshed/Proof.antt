@@ -1,6 +1,6 @@
 -- `refreshed` meets its contract: both rows are the fresh ones.
 use Rattle.words.specs.ListLaws.{long}
-use Rattle.executive.specs.ReadyLaws.{Full}
+use Rattle.executive.specs.MemberLaws.{Full}
 use Rattle.executive.specs.Step.{refreshed}
 use Rattle.executive.specs.WorkLaws.{fresh-hi, fresh-lo}
 use borrow.Author.Needs.{needs}

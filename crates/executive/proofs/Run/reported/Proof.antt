@@ -1,7 +1,7 @@
 -- `reported` meets its contract: an idle slot moves the border only, a job's slot its entry too.
 use native.Mathlib.Omega.{arith}
 use mathlib.Core.Path.{subst}
-use Rattle.executive.specs.declared.Slot.{Slot}
+use Rattle.ready.specs.declared.Slot.{Slot}
 use Rattle.executive.specs.Sound.{Countable}
 use Rattle.executive.specs.Step.{reported}
 use Rattle.executive.specs.StepLaws.{ran}

@@ -8,7 +8,8 @@ use lib.ListN.{length, take, drop}
 use Rattle.words.specs.Words.{every}
 use Rattle.words.specs.ListLaws.{long}
 use Rattle.plan.specs.Limits.{maxJobs}
-use Rattle.executive.specs.Parts.{entryHolds, allHold}
+use Rattle.entries.specs.Entry.{entryHolds}
+use Rattle.executive.specs.Coherent.{allHold}
 use Rattle.words.specs.ZipLaws.{every-on, every-not, every-end}
 use Rattle.executive.proofs.coherence.entries_hold.Statement.{statement}
 use Rattle.executive.proofs.coherence.entries_hold.Tie as tie
@@ -27,7 +28,6 @@ entries-full : (c : tie.Start Inv-loop μ-loop) → c .args .n ≤ length (c .ar
 entries-full c = let l : length (c .args .t3) ≡ maxJobs = search (needs, long) in omega (arith, c .pre)
 
 loop-holds : tie.Need-loop-holds Inv-loop μ-loop
-unfolding allHold
 loop-holds c = (search needs, refl)
 
 mul-j : tie.Need-mul-j Inv-loop μ-loop
