@@ -14,7 +14,7 @@ use Rattle.answers.specs.Answer.{accepted}
 use Rattle.plan.specs.declared.Plan.{Plan}
 use Rattle.plan_text.specs.Reader.{planPrefix}
 use Rattle.plan_text.specs.PrefixLaws.{prefix-stands}
-use Rattle.plan_text.specs.DecidedLaws.{enough, plan-decided}
+use Rattle.plan_text.specs.DecidedLaws.{enough, plan-decided, isFinal, open-short}
 use Rattle.acceptance.specs.Acceptance.{acceptance}
 use Rattle.executive.specs.declared.Report.{Report}
 use Rattle.executive.specs.Run.{start}
@@ -75,9 +75,7 @@ module _ (c : Console) (s : List ℕ) (used : ℕ) where
       let stands = prefix-stands s p refl a in
       let few = plan-decided .goes 1 s [] (p .plan) (p .line) (drop (p .next) s) (stands .0) .1 in
       rw a (started-held (p .next) (p .line) (p .plan) (reading c used e h) (omega (arith, length-drop (p .next) s, stands .1))))
-      (λ a. by-less (length s) enough
-      (λ l. rw (a, lt-ltb (length s) enough l) (waits-held h))
-      (λ l. rw (a, le-ltb (length s) enough l) (record { held = tt })))
+      (λ a. by-test (isFinal s (p .answer)) (λ f. rw (a, f) (record { held = tt })) (λ f. rw (a, f) (waits-held h)))
 
   report-held : c .stage ≡ Running → Held c used → (o : ReportAt) → reportAt s ≡ o → Held (reportEvent c o .console) (used + reportEvent c o .used)
   report-held e h (ReportAt.Got report place) q =
@@ -117,7 +115,7 @@ module _ (c : Console) (s : List ℕ) where
   plan-short w =
       by-test (accepted (planPrefix s .answer))
       (λ a. absurd (false≢true (sym (started-goes c s (planPrefix s .next) (planPrefix s .line) (planPrefix s .plan)) ∙ (rw a at w))))
-      (λ a. by-less (length s) enough (λ l. l) (λ l. absurd (false≢true (rw (a, le-ltb (length s) enough l) at w))))
+      (λ a. by-test (isFinal s (planPrefix s .answer)) (λ f. absurd (false≢true (rw (a, f) at w))) (open-short s (planPrefix s .answer)))
 
   or-true : (b : Bool) → (b || true) ≡ true
   or-true b = by-test b (λ h. rw h) (λ h. rw h)
@@ -136,7 +134,7 @@ module _ (c : Console) (s : List ℕ) where
   plan-still w =
       by-test (accepted (planPrefix s .answer))
       (λ a. absurd (false≢true (sym (started-goes c s (planPrefix s .next) (planPrefix s .line) (planPrefix s .plan)) ∙ (rw a at w))))
-      (λ a. by-less (length s) enough (λ l. rw (a, lt-ltb (length s) enough l) (refl, refl)) (λ l. absurd (false≢true (rw (a, le-ltb (length s) enough l) at w))))
+      (λ a. by-test (isFinal s (planPrefix s .answer)) (λ f. absurd (false≢true (rw (a, f) at w))) (λ f. rw (a, f) (refl, refl)))
 
   line-still : lineEvent c s .waiting ≡ true → (lineEvent c s .console ≡ c) × (lineEvent c s .used ≡ 0)
   unfolding lineEvent

@@ -16,6 +16,7 @@ ghost use Rattle.console.specs.Console.{freshConsole, waits, refuses, st
 ghost use Rattle.console.specs.Turns.{Told};
 ghost use Rattle.console.specs.declared.run.Stage.the-variants.{Running};
 ghost use Rattle.plan_text.specs.Reader.{planPrefix};
+ghost use Rattle.plan_text.specs.DecidedLaws.{isFinal};
 use crate::print::put_job_line;
 use crate::print::put_refused_line;
 use crate::print::put_step_line;
@@ -121,6 +122,17 @@ fn begun(c: Console, plan: Plan, used: usize, line: u16, out: &mut [u8]) -> Turn
     }
 }
 
+// More text would not change this refusal: the line at fault is complete, or the bytes in hand are enough.
+fn is_final(text: &[u8], answer: Answer) -> bool
+    ensures { λ r. ⌜ r ≡ isFinal (now (text .entry)) answer ⌝ }
+{
+    let line = answers::first_place(answer);
+    if lines::counting::has_lines(text, line) {
+        return true;
+    }
+    ENOUGH <= text.len()
+}
+
 // The plan at the start of the text, once it is there or can no longer be completed.
 fn take_plan(c: Console, text: &[u8], out: &mut [u8]) -> Turn
     requires { ⌜ runRoom ≤ length (now out) ⌝ }
@@ -132,7 +144,7 @@ fn take_plan(c: Console, text: &[u8], out: &mut [u8]) -> Turn
         let plan = prefix.plan;
         return begun(c, plan, prefix.next, prefix.line, out);
     }
-    if text.len() < ENOUGH {
+    if !is_final(text, answer) {
         return waiting(c);
     }
     refused(c, answer, out)
