@@ -15,13 +15,14 @@ use Rattle.acceptance.specs.Acceptance.{check9, acceptance}
 use Rattle.well_formed.specs.WellFormed.{wellFormed}
 use Rattle.window_sums.specs.WindowSums.{check8}
 use Rattle.well_formed.specs.InOrder.{jobAt, InOrder, Sized}
-use Rattle.spare_theory.specs.Promise.{windowsOf, hiOf, asked, A1, A2}
+use Rattle.spare_theory.specs.Promise.{windowsOf, hiOf, asked, A1, A2, NoEnd}
 use Rattle.spare_theory.specs.Chain.{Quiet, Chain}
 use Rattle.spare_theory.specs.Spares.{Least, currentEnd}
 use Rattle.well_formed.specs.InOrderLaws.{in-order}
 use Rattle.spare_theory.specs.ChainLaws.{intervals-chain}
 use Rattle.spare_theory.specs.SpareLaws.{spare-least, not-below-exactly, above-exactly}
 use Rattle.spare_theory.specs.TableLaws.{a1-of-a2}
+use Rattle.spare_theory.specs.WorseLaws.{worse}
 use Rattle.acceptance_promise.specs.Check8Laws.{a1-exactly}
 use Rattle.acceptance_promise.specs.Check9Laws.{a2-exactly, accepted-promise, refused-promise}
 
@@ -58,6 +59,10 @@ module _ (p : Plan) (ok : InOrder p) where
   -- check 9 passes exactly when A2 holds
   pub A2-exactly : (accepted (check9 p) ≡ true) ↔ A2 p
   A2-exactly = a2-exactly p ok
+
+  -- between two ends of HI jobs along the table the condition of A2 only gets worse: where it fails at t and no HI job ends in slot t, it fails at t + 1
+  pub A2-worse : (t : ℕ) → NoEnd p t (t + 1) → (InTime (windowsOf p) t (asked p t) → ⊥) → InTime (windowsOf p) (t + 1) (asked p (t + 1)) → ⊥
+  A2-worse = worse p ok
 
   -- A1 follows from A2: check 8 can never fail alone
   pub A1-of-A2 : A2 p → A1 p

@@ -60,10 +60,6 @@ sumsByHome hs ws = map (ofJobs hs ws) (countUp 0 maxIntervals)
 abbrev pub ByHome : List ℕ → List ℕ → List ℕ → Type 0
 ByHome hs ws sums = (sums ≡ sumsByHome hs ws) × SumsBelow maxPlaceWork sums
 
--- the sums with some work taken from a place, not below 0; a place beyond the last changes nothing
-unfoldable pub takenFrom : List ℕ → ℕ → ℕ → List ℕ
-takenFrom sums place work = if place <? maxIntervals then set sums place (getD sums place 0 - work) else sums
-
 -- the sums with the work of one more job; a home beyond the last place counts nowhere
 unfoldable pub withWork : List ℕ → ℕ → ℕ → List ℕ
 withWork sums home work = if home <? maxIntervals then set sums home (getD sums home 0 + work) else sums

@@ -1,26 +1,23 @@
--- A current interval in debt is one whose spare is below 0, and sums of work stay those of the jobs when work is taken from both.
+-- A current interval in debt is one whose spare is below 0.
 -- The words are in Debt; the laws of the sums and of whole rows are in RowLaws.
 use Prim.Native.Nat.{ℕ, zero, suc, _+_, _-_, _*_, _≤_, _<_}
-use native.Mathlib.Nat.{not-suc-le-zero, le-of-suc-le-suc}
 use native.Mathlib.Omega.{arith}
 use mathlib.Core.Path.{_≡_, refl, sym, ap, _∙_}
 use mathlib.Core.Bool.{Bool, true, false}
 use mathlib.Core.List.{List, [], _∷_, _++_}
-use borrow.Author.Tests.{lt-ltb, le-ltb, eq-eqb, ne-eqb}
+use borrow.Author.Tests.{lt-ltb, le-ltb}
 use lib.IntN.{ℤ, pos, negsuc}
-use lib.ListN.{getD, set, length, length-set, length-take, length-drop, take, drop, replicate}
-use lib.Seq.{getD-set-same, getD-set-other, set-getD}
-use Rattle.words.specs.Words.{if_then_else_, _≤?_, _<?_, _=?_, below0}
-use Rattle.words.specs.Cases.{by-less, by-equal}
+use lib.ListN.{getD, length, length-take, length-drop, take, drop, replicate}
+use Rattle.words.specs.Words.{if_then_else_, _≤?_, _<?_, below0}
 use Rattle.words.specs.BackLaws.{back-step}
 use Rattle.words.specs.Difference.{Is}
 use Rattle.intervals.specs.declared.Interval.{Interval}
 use Rattle.intervals.specs.declared.Layout.{Layout}
 use Rattle.intervals.specs.Intervals.{maxIntervals, past}
 use Rattle.intervals.specs.Spares.{atMost0, nextSpare}
-use Rattle.intervals.specs.Layout.{blankInterval, listed, workAt, sparesFrom, rowIn, pastIn}
-use Rattle.intervals.specs.Debt.{maxSum, room, asked, debtFrom, ofJobs, ofSums, inDebt, sumsByHome, takenFrom}
-use Rattle.intervals.specs.RowLaws.{sums-size, sum-at, sums-are, debt-is}
+use Rattle.intervals.specs.Layout.{blankInterval, listed, sparesFrom, rowIn, pastIn}
+use Rattle.intervals.specs.Debt.{maxSum, room, asked, debtFrom, ofJobs, ofSums, inDebt, sumsByHome}
+use Rattle.intervals.specs.RowLaws.{sum-at, debt-is}
 
 -- ---- the debt, worked out last interval first
 
@@ -92,54 +89,3 @@ in-debt l t ws sums size e =
     let now : ℤ = nextSpare (sparesFrom t i hs ws (drop i xs)) in
     let here : getD all i (pos 0) ≡ now = rw z at (spare-at t 0 i hs ws xs) in
     rw jobs (low-part now _ (debt-is t i hs ws (drop i xs)) ∙ ap below0 (sym (row-at all (maxIntervals - length all) i ∙ here)))
-
--- ---- work taken from a job and from the sum of its home
-
--- the work of a place, when one job's number is another
-work-set : (i : ℕ) (hs ws : List ℕ) (k v : ℕ) → k < length hs → k < length ws
-    → workAt i hs (set ws k v) + (if getD hs k 0 =? i then getD ws k 0 else 0) ≡ workAt i hs ws + (if getD hs k 0 =? i then v else 0)
-unfolding workAt
-work-set i [] ws k v a b = absurd (not-suc-le-zero a)
-work-set i (h ∷ hs) [] k v a b = absurd (not-suc-le-zero b)
-work-set i (h ∷ hs) (w ∷ ws) zero v a b = omega arith
-work-set i (h ∷ hs) (w ∷ ws) (suc k) v a b = omega (arith, work-set i hs ws k v (le-of-suc-le-suc a) (le-of-suc-le-suc b))
-
--- the sum of place i with work taken from a place
-taken-at : (sums : List ℕ) (place work i : ℕ) → length sums ≡ maxIntervals → i < maxIntervals → getD (takenFrom sums place work) i 0 ≡ getD sums i 0 - (if place =? i then work else 0)
-unfolding takenFrom
-taken-at sums place work i size l =
-    let sum = getD sums place 0 - work in
-    by-equal place i
-    (λ q. rw (lt-ltb place maxIntervals (omega arith), eq-eqb place i q, ← q, getD-set-same sums place sum 0 (omega arith)))
-    (λ q. by-less place maxIntervals
-    (λ p. rw (lt-ltb place maxIntervals p, ne-eqb place i q, getD-set-other sums place i sum 0 (λ e. q (sym e))) (omega arith))
-    (λ p. rw (le-ltb place maxIntervals p, ne-eqb place i q) (omega arith)))
-
-length-taken : (sums : List ℕ) (place work : ℕ) → length (takenFrom sums place work) ≡ length sums
-unfolding takenFrom
-length-taken sums place work = go (place <? maxIntervals)
-  where
-    go : (b : Bool) → length (if b then set sums place (getD sums place 0 - work) else sums) ≡ length sums
-    go true = length-set sums place (getD sums place 0 - work)
-    go false = refl
-
--- no work taken changes nothing
-pub none-taken : (sums : List ℕ) (place : ℕ) → takenFrom sums place 0 ≡ sums
-unfolding takenFrom
-none-taken sums place = go (place <? maxIntervals)
-  where
-    go : (b : Bool) → (if b then set sums place (getD sums place 0 - 0) else sums) ≡ sums
-    go true = let e : getD sums place 0 - 0 ≡ getD sums place 0 = omega arith in rw e (set-getD sums place 0)
-    go false = refl
-
--- taken from job k and from the sum of its home, the sums are again those of the jobs
-pub taken-by-home : (hs ws sums : List ℕ) (k v : ℕ) → sums ≡ sumsByHome hs ws → k < length hs → k < length ws → v ≤ getD ws k 0
-    → takenFrom sums (getD hs k 0) (getD ws k 0 - v) ≡ sumsByHome hs (set ws k v)
-taken-by-home hs ws sums k v e a b le =
-    let size : length sums ≡ maxIntervals = rw e (sums-size hs ws) in
-    sums-are hs (set ws k v) (takenFrom sums (getD hs k 0) (getD ws k 0 - v)) (length-taken sums (getD hs k 0) (getD ws k 0 - v) ∙ size)
-    (λ i l. rw (taken-at sums (getD hs k 0) (getD ws k 0 - v) i size l) (go (getD hs k 0 =? i) _ _ _ (sum-at hs ws sums i e l) (work-set i hs ws k v a b)))
-  where
-    go : (b : Bool) (sum here there : ℕ) → sum ≡ here → there + (if b then getD ws k 0 else 0) ≡ here + (if b then v else 0) → sum - (if b then getD ws k 0 - v else 0) ≡ there
-    go true sum here there p q = omega arith
-    go false sum here there p q = omega arith

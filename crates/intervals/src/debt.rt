@@ -1,12 +1,11 @@
 // The sums of work by interval, and whether they leave the current interval in debt. Whole rows of spares are in lib.rt.
 ghost use mathlib.Core.Path.{_≡_};
 ghost use Prim.Native.Nat.{_+_, _-_, _≤_, _<_, _^_};
-ghost use Rattle.intervals.specs.Debt.{maxSum, sumsByHome, takenFrom, room, asked, inDebt};
+ghost use Rattle.intervals.specs.Debt.{maxSum, sumsByHome, room, asked, inDebt};
 use crate::INTERVALS;
 use crate::Interval;
 use crate::Layout;
 use crate::capped;
-use crate::over;
 use crate::past_of;
 use crate::room_left;
 
@@ -24,16 +23,6 @@ pub fn work_by_home(home: [u16; plan::JOBS], work: [u16; plan::JOBS]) -> [u32; I
         k += 1;
     }
     sums
-}
-
-// Takes some work from the sum of a place, not below 0; a place beyond the last changes nothing.
-pub fn take_from(sums: &mut [u32; INTERVALS], place: u16, work: u16)
-    ensures { λ _. ⌜ now (sums .exit) ≡ takenFrom (now (sums .entry)) place work ⌝ }
-{
-    let at = plan::wide(place);
-    if at < INTERVALS {
-        sums[at] = over(sums[at], work as u32);
-    }
 }
 
 // What an interval leaves unmet at border t: its work and the later ones' debt beyond its room, nothing once it is past.
