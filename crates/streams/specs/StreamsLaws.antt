@@ -1,11 +1,10 @@
--- Laws of reading and writing: a part that is lent after the first n bytes leaves those as they were, and what was moved fits.
-use Prim.Native.Nat.{ℕ, _+_, _-_, _≤_, _<_}
+-- Laws of reading and writing: what was moved fits, and however often a call is made, the bytes held stay.
+use Prim.Native.Nat.{ℕ, _+_, _≤_, _<_}
 use native.Mathlib.Omega.{arith}
 use mathlib.Core.Path.{_≡_, refl, _∙_}
 use mathlib.Core.List.{List}
 use lib.ListN.{length, take}
 use borrow.Author.Tests.{eq-eqb, ne-eqb}
-use borrow.Rule.Slice.PartMut.{putMid, take-put}
 use Rattle.words.specs.Cases.{by-equal}
 use Rattle.streams.specs.declared.Came.{Came}
 use Rattle.streams.specs.declared.Came.the-variants.{Bytes, Failed}
@@ -23,11 +22,6 @@ failed-moved n most Tried.Failed none = tt
 
 pub moved-fits : (n most more : ℕ) (r : Tried) → r ≡ Tried.Moved more → MovedIn n most r → n + more ≤ most
 moved-fits n most more r e m = rw e at m
-
--- what is lent to the call begins after the n bytes
-module _ (n : ℕ) (before lent : List ℕ) (r : Tried) (room : n ≤ length before) (long : length (putMid n (length before - n) before lent) ≡ length before) where
-  pub lent-read : MovedIn n (length before) r → TriedRead n before r (putMid n (length before - n) before lent)
-  lent-read m = record { stays = take-put n (length before - n) before lent room; long = long; moved = m }
 
 -- ---- calls until one moves something or fails
 

@@ -1,7 +1,9 @@
 -- `read_once` meets its promise: what is lent to the call begins after the bytes that stay.
-use Rattle.streams.specs.declared.Tried.the-variants.{Moved}
-use Rattle.streams.specs.StreamsLaws.{failed-moved, lent-read}
+use Rattle.streams.specs.StreamsLaws.{failed-moved}
+use Prim.Native.Nat.{_-_}
+use lib.ListN.{length}
 use borrow.Author.Needs.{needs}
+use borrow.Rule.Slice.PartMut.{take-put}
 use Rattle.streams.proofs.read_once.Statement.{statement}
 use Rattle.streams.proofs.read_once.Tie as tie
 
@@ -29,7 +31,7 @@ same-length c = search needs
 returns : tie.Need-returns
 returns c =
     let s = c .before .before .before .before .before .before .before .before in
-    lent-read (s .args .n) (s .args .held .now) (c .before .before .before .before .before .read .last .1 .0) (c .after-failure .result) (s .pre) (search needs) (failed-moved _ _ (c .after-failure .result) (c .after-failure .ensures))
+    record { stays = take-put (s .args .n) (length (s .args .held .now) - s .args .n) (s .args .held .now) (c .before .before .before .before .before .read .last .1 .0) (s .pre); long = search needs; moved = failed-moved _ _ (c .after-failure .result) (c .after-failure .ensures) }
 
 sub-count : tie.Need-sub-count
 sub-count c = search needs
@@ -49,7 +51,7 @@ same-length-2 c = search needs
 returns-2 : tie.Need-returns-2
 returns-2 c =
     let s = c .before .before .before .before .before .before .before .before .before in
-    lent-read (s .args .n) (s .args .held .now) (c .before .before .before .before .before .before .read .last .1 .0) (Moved (c .count .result)) (s .pre) (search needs) (search needs)
+    record { stays = take-put (s .args .n) (length (s .args .held .now) - s .args .n) (s .args .held .now) (c .before .before .before .before .before .before .read .last .1 .0) (s .pre); long = search needs; moved = search needs }
 
 pub read-once-spec : {M : Type 1} → statement M
 read-once-spec =
