@@ -5,7 +5,7 @@ use lib.ListN.{getD}
 use Rattle.words.specs.Words.{if_then_else_, _=?_}
 use Rattle.answers.specs.declared.Answer.{Answer}
 use Rattle.answers.specs.declared.Answer.the-variants.{Accepted}
-use Rattle.answers.specs.Answer.{numberOf, placesOf, accepted, _andThen_}
+use Rattle.answers.specs.Answer.{placesOf, accepted, _andThen_}
 use Rattle.plan_text.specs.Read.{readPlan}
 use Rattle.acceptance.specs.Analysis.{analysis}
 use Rattle.executive.specs.declared.Run.{Run}

@@ -1,7 +1,6 @@
 -- What the run program has still to print, with the console at some place of a whole text. The program's whole output is in console.
 use Prim.Native.Nat.{ℕ, _+_, _≤_}
 use mathlib.Core.Path.{_≡_}
-use mathlib.Core.Bool.{Bool}
 use mathlib.Core.List.{List, _++_}
 use lib.ListN.{length, drop}
 use Rattle.words.specs.Words.{if_then_else_, _≤?_}

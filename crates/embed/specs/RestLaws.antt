@@ -1,5 +1,5 @@
 -- Laws of the run program on a whole text, one for each way a turn goes: the console waits, its event has no room, it goes on.
-use Prim.Native.Nat.{ℕ, zero, suc, _+_, _-_, _≤_, _<_}
+use Prim.Native.Nat.{ℕ, suc, _+_, _-_, _≤_, _<_}
 use native.Mathlib.Nat.{zero-add}
 use native.Mathlib.Omega.{arith}
 use mathlib.Core.Path.{_≡_, refl, sym, ap, _∙_}
@@ -8,14 +8,14 @@ use mathlib.Core.List.{List, [], _∷_, _++_, append-nil, append-assoc}
 use lib.ListN.{length, take, drop, length-append, length-drop}
 use lib.Seq.{drop-drop, take-all, take-append-seam}
 use borrow.Author.Tests.{le-leb, lt-leb, leb-true, not-false}
-use Rattle.words.specs.Words.{if_then_else_, _≤?_}
+use Rattle.words.specs.Words.{_≤?_}
 use Rattle.words.specs.Cases.{by-less}
 use Rattle.lines.specs.Writing.{put, putFit, placeAfter}
 use Rattle.lines.specs.WritingLaws.{put-fits, after-fits, length-put, put-put, put-start, piece-refused, piece-written}
 use Rattle.console.specs.declared.run.Console.{Console}
 use Rattle.console.specs.declared.run.Turn.{Turn}
 use Rattle.console.specs.Run.{runOutput}
-use Rattle.console.specs.Console.{Event, freshConsole, turnOf, event, endOutput, after, settled, session, nextTurn, nextOut, endLength, endWritten, runRoom}
+use Rattle.console.specs.Console.{freshConsole, turnOf, event, endOutput, settled, session, nextTurn, nextOut, endLength, endWritten, runRoom}
 use Rattle.console.specs.SessionLaws.{session-output}
 use Rattle.embed.specs.Rest.{rest, eventOut, Counting, Writing}
 

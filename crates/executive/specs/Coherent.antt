@@ -12,8 +12,6 @@ use Rattle.entries.specs.declared.Entry.{Entry}
 use Rattle.entries.specs.Entry.{entryHolds}
 use Rattle.executive.specs.declared.Run.{Run}
 use Rattle.executive.specs.Run.{freshHi, freshLo}
-use Rattle.entries.specs.declared.Standing.{Standing}
-use Rattle.entries.specs.declared.Standing.the-variants.{Waiting, Finished, Cut, Dropped}
 
 -- the entries of these jobs hold at border t
 abbrev pub allHold : ℕ → List Job → List Entry → Bool

@@ -7,7 +7,7 @@ use Rattle.plan.specs.declared.Job.{Job}
 use Rattle.answers.specs.declared.Answer.{Answer}
 use Rattle.answers.specs.declared.Answer.the-variants.{Accepted, OtherSlot, WrongKind}
 use Rattle.words.specs.Words.{if_then_else_, _=?_}
-use Rattle.plan.specs.Plan.{jobsOf, jobNo, isHi, countsAt}
+use Rattle.plan.specs.Plan.{jobsOf, jobNo, countsAt}
 use Rattle.answers.specs.Answer.{accepted, _unless_, _andThen_}
 use Rattle.entries.specs.declared.Entry.{Entry}
 use Rattle.executive.specs.declared.Phase.{Phase}

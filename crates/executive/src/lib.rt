@@ -1,9 +1,6 @@
 // The run of an accepted plan, slot by slot: start, coherence, choice, report, expiry, phase. Texts and programs are above.
 ghost use mathlib.Core.Path.{_≡_};
-ghost use lib.ListN.{replicate};
-ghost use Rattle.plan.specs.Limits.{maxJobs};
 ghost use Rattle.intervals.specs.Layout.{layoutOf};
-ghost use Rattle.entries.specs.Entry.{freshEntry};
 ghost use Rattle.executive.specs.Run.{blankRun, start};
 ghost use Rattle.executive.specs.Coherent.{coherent};
 ghost use Rattle.executive.specs.Choice.{canGoOn, choose};

@@ -6,18 +6,18 @@ use Prim.Native.String.{String}
 use native.Mathlib.Nat.{suc-mul, le-of-suc-le-suc}
 use native.Mathlib.Omega.{arith}
 use mathlib.Core.Path.{_≡_, refl, sym, ap, _∙_}
-use mathlib.Core.Bool.{Bool, true, false, _&&_}
+use mathlib.Core.Bool.{true, false}
 use mathlib.Core.List.{List, [], _∷_, _++_}
 use mathlib.Core.Option.{Option, none, some}
 use lib.ListN.{length, take, drop, length-append, length-take, length-drop}
 use lib.Seq.{take-append-le, drop-append-le}
-use borrow.Author.Tests.{lt-ltb, le-ltb, ltb-true, ltb-false}
-use Rattle.words.specs.Words.{if_then_else_, _<?_, _=?_}
+use borrow.Author.Tests.{lt-ltb, le-ltb}
+use Rattle.words.specs.Words.{_=?_}
 use Rattle.words.specs.Cases.{by-test, by-less}
 use Rattle.answers.specs.declared.Answer.{Answer}
 use Rattle.answers.specs.declared.Answer.the-variants.{Form}
 use Rattle.answers.specs.Answer.{accepted, firstPlace}
-use Rattle.lines.specs.Lines.{bytes, LF, Cursor, Read, got, refused, Reader, give, onward, _>>=_, must, orForm, many, lineLength, linesIn, begins, valueIn, lineOn, field}
+use Rattle.lines.specs.Lines.{bytes, LF, Cursor, Read, got, refused, Reader, give, onward, _>>=_, must, orForm, many, lineLength, linesIn, begins, valueIn, field}
 use Rattle.lines.specs.RoundLaws.{cursor, unread, got-same, onward-there, onward-back}
 use Rattle.lines.specs.NumberLaws.{nothing}
 

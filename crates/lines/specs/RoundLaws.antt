@@ -1,5 +1,5 @@
 -- Laws of the round trip: a line that is written is read, a line that is read is one that was written, and the same for many things of one kind.
-use Prim.Native.Nat.{ℕ, zero, suc, _+_, _-_, _/_, _%_, _≤_, _<_}
+use Prim.Native.Nat.{ℕ, zero, suc, _+_, _/_, _%_, _≤_, _<_}
 use Prim.Native.String.{String}
 use native.Mathlib.Omega.{arith}
 use native.Mathlib.Decide.{decLt}

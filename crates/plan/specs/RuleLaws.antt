@@ -1,7 +1,7 @@
 -- Laws of the rules, for the functions that test them.
 use Prim.Native.Nat.{ℕ, _≤_, _<_}
-use mathlib.Core.Bool.{Bool, true, false, _||_}
-use mathlib.Core.Path.{_≡_, refl, sym, _∙_}
+use mathlib.Core.Bool.{true, false, _||_}
+use mathlib.Core.Path.{_≡_, sym}
 use mathlib.Core.List.{map}
 use lib.ListN.{take}
 use borrow.Author.Tests.{le-leb, lt-leb}

@@ -1,5 +1,4 @@
 -- Whether two plans are equal, as a test. That the test is SamePlan stands in SameLaws.
-use Prim.Native.Nat.{ℕ}
 use mathlib.Core.Bool.{Bool, true, false, _&&_}
 use mathlib.Core.List.{zipWith}
 use Rattle.words.specs.Words.{_=?_, every}

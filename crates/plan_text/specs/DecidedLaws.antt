@@ -1,28 +1,25 @@
 -- How much of a text decides its plan: with `enough` bytes in hand, or with the line at fault complete, a refusal is the one for any longer text.
 use Prim.Native.Nat.{ℕ, _+_, _*_, _≤_, _<_}
 use native.Mathlib.Omega.{arith}
-use mathlib.Core.Path.{_≡_, refl, sym, ap, _∙_}
+use mathlib.Core.Path.{_≡_, refl, sym, _∙_}
 use mathlib.Core.Bool.{Bool, true, false, _||_, false≢true}
-use mathlib.Core.List.{List, [], _∷_, _++_}
-use mathlib.Core.Option.{Option, none, some}
+use mathlib.Core.List.{List, _++_}
+use mathlib.Core.Option.{none, some}
 use lib.ListN.{length, length-append}
-use borrow.Author.Tests.{eq-eqb, ne-eqb, leb-true, leb-false}
+use borrow.Author.Tests.{ne-eqb, leb-true, leb-false}
 use Rattle.words.specs.Words.{_≤?_}
 use Rattle.words.specs.Cases.{by-test, both-hold}
 use Rattle.answers.specs.declared.Answer.{Answer}
-use Rattle.answers.specs.declared.Answer.the-variants.{Form, SlotLimit, JobLimit}
+use Rattle.answers.specs.declared.Answer.the-variants.{SlotLimit, JobLimit}
 use Rattle.answers.specs.Answer.{accepted, _unless_, firstPlace}
 use Rattle.answers.specs.RefusalLaws.{neither-true}
-use Rattle.lines.specs.Lines.{bytes, number, sameBytes, Cursor, Read, got, refused, Reader, give, onward, _>>=_, must, many, linesIn, field, nothingAfter}
+use Rattle.lines.specs.Lines.{bytes, number, Read, got, refused, Reader, _>>=_, must, linesIn, nothingAfter}
 use Rattle.lines.specs.RoundLaws.{cursor, unread}
 use Rattle.lines.specs.ReadingLaws.{number-long, same-length}
 use Rattle.lines.specs.DecidedLaws.{Decided, decided-more, give-decided, must-decided, then-decided, many-decided, field-decided}
-use Rattle.plan.specs.declared.Level.{Level}
-use Rattle.plan.specs.declared.Job.{Job}
 use Rattle.plan.specs.declared.Plan.{Plan}
 use Rattle.plan.specs.Limits.{maxSlots, maxJobs, oneTo}
-use Rattle.plan.specs.Plan.{blankJob}
-use Rattle.plan_text.specs.Read.{levelIn, nextJob, nextPlan, startOf, onlyPlan, planRead, readPlan}
+use Rattle.plan_text.specs.Read.{levelIn, nextJob, nextPlan, startOf, onlyPlan, readPlan}
 
 -- a level has two bytes
 level-long : (v : List ℕ) → 2 < length v → levelIn v ≡ none

@@ -1,5 +1,5 @@
 -- The plan text and its reading.
-use Prim.Native.Nat.{ℕ, _+_}
+use Prim.Native.Nat.{ℕ}
 use mathlib.Core.List.{List, _++_, flatMap}
 use mathlib.Core.Option.{Option, none, some}
 use Rattle.plan.specs.declared.Level.{Level}

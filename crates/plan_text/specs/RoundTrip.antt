@@ -1,5 +1,5 @@
 -- The round trip, over the definitions and over what the functions promise: what is written reads back to an equal plan, what is read writes back to the same bytes, and a plan has one text.
-use Prim.Native.Nat.{ℕ, _+_, _-_, _≤_}
+use Prim.Native.Nat.{ℕ, _≤_}
 use native.Mathlib.Omega.{arith}
 use mathlib.Core.Path.{_≡_, refl, sym, ap, _∙_}
 use mathlib.Core.Bool.{Bool, true, false}

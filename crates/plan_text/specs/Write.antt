@@ -1,5 +1,5 @@
 -- The writer of the plan text: its answer, and what the lent output then holds.
-use Prim.Native.Nat.{ℕ, _+_}
+use Prim.Native.Nat.{ℕ}
 use mathlib.Core.List.{List, [], _∷_, _++_, flatMap}
 use lib.ListN.{length, drop}
 use Rattle.plan.specs.declared.Plan.{Plan}

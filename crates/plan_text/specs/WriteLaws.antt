@@ -1,13 +1,12 @@
 -- Laws of the writer's answer: it accepts exactly the plans that can be written, where there is room.
-use Prim.Native.Nat.{ℕ, suc, _+_, _≤_}
+use Prim.Native.Nat.{ℕ, suc, _≤_}
 use native.Mathlib.Omega.{arith}
 use mathlib.Core.Path.{_≡_, refl}
 use mathlib.Core.Bool.{Bool, true, false}
 use mathlib.Core.List.{List, [], _∷_, _++_, flatMap}
 use lib.ListN.{length, drop}
 use borrow.Author.Tests.{le-leb, leb-true}
-use Rattle.words.specs.Words.{if_then_else_, _≤?_}
-use Rattle.answers.specs.declared.Answer.{Answer}
+use Rattle.words.specs.Words.{_≤?_}
 use Rattle.answers.specs.declared.Answer.the-variants.{Accepted, Written, Form, NoRoom}
 use Rattle.answers.specs.Answer.{accepted, _unless_, _andThen_, firstRefusal}
 use Rattle.answers.specs.RefusalLaws.{both-accept}

@@ -15,7 +15,7 @@ use Rattle.lines.specs.WritingLaws.{put-start}
 use Rattle.console.specs.declared.run.Console.{Console}
 use Rattle.console.specs.declared.run.Turn.{Turn}
 use Rattle.console.specs.Console.{freshConsole, runRoom, isStopped, turnOf, event, nextTurn, nextOut, endOutput, endLength, endWritten, Settled, after}
-use Rattle.console.specs.SessionLaws.{todo, event-less}
+use Rattle.console.specs.SessionLaws.{event-less}
 use Rattle.console.specs.ProgressLaws.{atRest, rests, rests-after, progress, progress-on, progress-output}
 use Rattle.console.specs.HeldLaws.{waits-still, waits-few}
 use Rattle.run_plan.specs.declared.Left.{Left}

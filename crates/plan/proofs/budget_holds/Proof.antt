@@ -1,6 +1,6 @@
 -- `plan::budget_holds` meets its contract: the tests are the definition's, in its order.
 use mathlib.Core.Path.{sym, _∙_}
-use borrow.Author.Tests.{lt-leb, le-leb, lt-ltb, le-ltb}
+use borrow.Author.Tests.{lt-leb, le-leb}
 use Rattle.plan.specs.Rules.{budgetHolds}
 use Rattle.plan.specs.RuleLaws.{budget-hi, budget-lo}
 use borrow.Author.Needs.{needs}

@@ -1,5 +1,5 @@
 -- `plan::every_window` meets its contract. The loop's invariant: the test from place i on is the whole test.
-use Prim.Native.Nat.{ℕ, _-_, _≤_}
+use Prim.Native.Nat.{_-_, _≤_}
 use native.Mathlib.Omega.{arith}
 use mathlib.Core.Path.{_≡_, refl, sym, _∙_}
 use mathlib.Core.List.{map}

@@ -1,12 +1,12 @@
 -- `plan::same_jobs` meets its contract. The loop's invariant: the test from place i on is the whole test.
-use Prim.Native.Nat.{ℕ, _-_, _≤_}
+use Prim.Native.Nat.{_-_, _≤_}
 use native.Mathlib.Omega.{arith}
 use mathlib.Core.Path.{_≡_, refl, sym, _∙_}
 use mathlib.Core.List.{zipWith}
 use lib.ListN.{length, take, drop}
 use borrow.Author.Needs.{needs}
-use borrow.Author.Tests.{not-true, not-false, eq-eqb, ne-eqb}
-use Rattle.words.specs.Words.{_=?_, every}
+use borrow.Author.Tests.{not-true, not-false}
+use Rattle.words.specs.Words.{every}
 use Rattle.words.specs.ListLaws.{long}
 use Rattle.words.specs.EveryLaws.{pairs-on, pairs-fail, pairs-end}
 use Rattle.plan.specs.Limits.{maxJobs}

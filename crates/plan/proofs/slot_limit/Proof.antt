@@ -1,5 +1,5 @@
 -- `plan::slot_limit` meets its contract: the two tests are those of `oneTo`.
-use borrow.Author.Tests.{lt-leb, le-leb, lt-ltb, le-ltb}
+use borrow.Author.Tests.{lt-leb, le-leb}
 use borrow.Author.Needs.{needs}
 use Rattle.plan.proofs.slot_limit.Statement.{statement}
 use Rattle.plan.proofs.slot_limit.Tie as tie

@@ -1,5 +1,5 @@
 -- `plan::window_holds` meets its contract: the tests are the definition's.
-use borrow.Author.Tests.{lt-leb, le-leb, lt-ltb, le-ltb}
+use borrow.Author.Tests.{lt-ltb, le-ltb}
 use Rattle.plan.specs.Rules.{windowHolds}
 use Rattle.plan.proofs.window_holds.Statement.{statement}
 use Rattle.plan.proofs.window_holds.Tie as tie

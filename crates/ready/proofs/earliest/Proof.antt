@@ -1,5 +1,5 @@
 -- `earliest` meets its contract. The invariant: the walk from the best so far over what is left is the whole walk. The measure is the set itself.
-use Prim.Native.Nat.{_*_, _%_, _^_, _≤_, _<_, _-_}
+use Prim.Native.Nat.{_*_, _%_, _^_, _≤_, _<_}
 use native.Mathlib.Omega.{arith}
 use mathlib.Core.Path.{_≡_, refl, sym, _∙_}
 use lib.Count.{trailingZeros}

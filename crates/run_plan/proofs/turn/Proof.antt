@@ -1,6 +1,6 @@
 -- `turn` meets its promise: the bytes held stay before what came, so the session goes on with one more piece.
 use native.Mathlib.Omega.{arith}
-use mathlib.Core.Path.{refl, sym, _∙_}
+use mathlib.Core.Path.{refl, sym}
 use lib.Seq.{length-take-le}
 use Rattle.streams.specs.StreamsLaws.{came-fits}
 use Rattle.run_plan.specs.LoopLaws.{over-turned, stands-on}

@@ -8,7 +8,7 @@ use Rattle.well_formed.specs.InOrderLaws.{in-order}
 use Rattle.words.specs.ListLaws.{long}
 use Rattle.executive.specs.declared.Run.{Run}
 use Rattle.executive.specs.Run.{freshHi, freshLo}
-use Rattle.executive.specs.Coherent.{entriesHold, sameRow, coherent, allHold}
+use Rattle.executive.specs.Coherent.{entriesHold, sameRow, coherent}
 use Rattle.executive.specs.MemberLaws.{Full}
 use Rattle.executive.specs.WorkLaws.{fresh-hi, fresh-lo}
 use borrow.Author.Needs.{needs}

@@ -2,7 +2,7 @@
 use lib.ListN.{length, length-set}
 use borrow.Author.Needs.{needs}
 use native.Mathlib.Omega.{arith}
-use Prim.Native.Nat.{_+_, _-_, _/_, _≤_}
+use Prim.Native.Nat.{_+_, _/_, _≤_}
 use mathlib.Core.Path.{_≡_}
 use Rattle.lines.specs.Lines.{digits}
 use Rattle.lines.specs.WritingLaws.{piece-room, piece-refused, piece-written, digits-shorter, digits-bound, Tail, tail-start, tail-room, tail-more, tail-done}

@@ -1,5 +1,4 @@
 -- `plan_text::writer::digit_count` meets its promise: a number of 16 bits has at most five digits.
-use Prim.Native.Nat.{_-_}
 use native.Mathlib.Omega.{arith}
 use Rattle.plan_text.specs.WriterLaws.{digits-five}
 use borrow.Author.Needs.{needs}

@@ -1,5 +1,4 @@
 -- `plan_text::writer::job_len` meets its promise: the five lines' lengths.
-use Prim.Native.Nat.{_-_}
 use native.Mathlib.Omega.{arith}
 use Rattle.plan_text.specs.WriterLaws.{job-length}
 use borrow.Author.Needs.{needs}
