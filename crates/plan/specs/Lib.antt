@@ -4,5 +4,3 @@ pub mod Rules
 pub mod RuleLaws
 pub mod Counts
 pub mod CountLaws
-pub mod Same
-pub mod SameLaws

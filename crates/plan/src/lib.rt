@@ -1,17 +1,16 @@
 // The plan's record: levels, jobs, the table; its rules for limits, windows and budgets; the counts of table slots.
 // The text is in plan_text, the judgement of a whole plan in acceptance.
 ghost use mathlib.Core.Path.{_≡_};
-ghost use mathlib.Core.List.{map, zipWith};
+ghost use mathlib.Core.List.{map};
 ghost use lib.ListN.{take};
-ghost use Rattle.words.specs.Words.{_=?_, every};
-ghost use Prim.Native.Nat.{_+_, _≤_, _<_, min};
+ghost use Rattle.words.specs.Words.{every};
+ghost use Prim.Native.Nat.{_≤_, _<_};
 ghost use Rattle.answers.specs.declared.Answer.the-variants.{SlotLimit, JobLimit};
 ghost use Rattle.answers.specs.Answer.{_unless_};
 ghost use Rattle.plan.specs.Limits.{maxSlots, maxJobs, oneTo};
 ghost use Rattle.plan.specs.Plan.{blankJob, blankPlan, isHi, countsAt};
 ghost use Rattle.plan.specs.Rules.{windowHolds, budgetHolds, windowsHold};
 ghost use Rattle.plan.specs.Counts.{countedWith, countPlace};
-ghost use Rattle.plan.specs.Same.{sameLevel, sameJob, samePlan};
 use answers::Answer;
 
 pub const SLOTS: usize = 512;
@@ -231,95 +230,4 @@ pub fn counts_at(p: Plan, t: u16) -> [u16; JOBS]
         return counts_to(p, border);
     }
     counts_to(p, SLOTS)
-}
-
-fn same_level(a: Level, b: Level) -> bool
-    ensures { λ r. ⌜ r ≡ sameLevel a b ⌝ }
-{
-    match a {
-        Level::Lo => match b {
-            Level::Lo => true,
-            Level::Hi => false,
-        },
-        Level::Hi => match b {
-            Level::Lo => false,
-            Level::Hi => true,
-        },
-    }
-}
-
-fn same_job(i: Job, j: Job) -> bool
-    ensures { λ r. ⌜ r ≡ sameJob i j ⌝ }
-{
-    let a = i.level;
-    let b = j.level;
-    if !same_level(a, b) {
-        return false;
-    }
-    if i.release != j.release {
-        return false;
-    }
-    if i.deadline != j.deadline {
-        return false;
-    }
-    if i.lo != j.lo {
-        return false;
-    }
-    i.hi == j.hi
-}
-
-// The first n jobs agree.
-fn same_jobs(p: Plan, q: Plan, n: usize) -> bool
-    requires { ⌜ n ≤ maxJobs ⌝ }
-    ensures { λ r. ⌜ r ≡ every (zipWith sameJob (take n (p .job)) (take n (q .job))) ⌝ }
-{
-    let mut i: usize = 0;
-    while i < n {
-        let a = p.job[i];
-        let b = q.job[i];
-        if !same_job(a, b) {
-            return false;
-        }
-        i += 1;
-    }
-    true
-}
-
-// The first n slots agree.
-fn same_slots(p: Plan, q: Plan, n: usize) -> bool
-    requires { ⌜ n ≤ maxSlots ⌝ }
-    ensures { λ r. ⌜ r ≡ every (zipWith _=?_ (take n (p .table)) (take n (q .table))) ⌝ }
-{
-    let mut i: usize = 0;
-    while i < n {
-        let a = p.table[i];
-        let b = q.table[i];
-        if a != b {
-            return false;
-        }
-        i += 1;
-    }
-    true
-}
-
-fn at_most(n: usize, limit: usize) -> usize
-    ensures { λ r. ⌜ r ≡ min n limit ⌝ }
-{
-    if n < limit { n } else { limit }
-}
-
-// Whether two plans are equal: N, n, the first n jobs and the first N slots agree.
-pub fn same_plan(p: Plan, q: Plan) -> bool
-    ensures { λ r. ⌜ r ≡ samePlan p q ⌝ }
-{
-    if p.slots != q.slots {
-        return false;
-    }
-    if p.jobs != q.jobs {
-        return false;
-    }
-    if !same_jobs(p, q, at_most(wide(p.jobs), JOBS)) {
-        return false;
-    }
-    same_slots(p, q, at_most(wide(p.slots), SLOTS))
 }
