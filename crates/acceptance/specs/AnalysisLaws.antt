@@ -11,7 +11,9 @@ use Rattle.intervals.specs.declared.Layout.{Layout}
 use Rattle.intervals.specs.Spares.{row}
 use Rattle.intervals.specs.Layout.{layoutOf}
 use Rattle.acceptance.specs.declared.Analysis.{Analysis}
-use Rattle.acceptance.specs.Acceptance.{wellFormed, check8, check9, acceptance}
+use Rattle.well_formed.specs.WellFormed.{wellFormed}
+use Rattle.window_sums.specs.WindowSums.{check8}
+use Rattle.acceptance.specs.Acceptance.{check9, acceptance}
 use Rattle.acceptance.specs.Analysis.{refusedAnalysis, acceptedAnalysis, analysis}
 use Rattle.acceptance.specs.Work.{leftAtStart}
 

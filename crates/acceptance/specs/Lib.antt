@@ -1,11 +1,5 @@
 pub mod Acceptance
 pub mod Analysis
-pub mod Parts
-pub mod Rising
-pub mod RisingLaws
-pub mod Overfull
-pub mod OverfullLaws
 pub mod Work
 pub mod WorkLaws
-pub mod StoredLaws
 pub mod AnalysisLaws

@@ -21,12 +21,14 @@ use Rattle.plan.specs.declared.Plan.{Plan}
 use Rattle.plan.specs.Plan.{jobsOf, blankJob, isHi}
 use Rattle.intervals.specs.Intervals.{rising}
 use Rattle.intervals.specs.Spares.{hiLeft}
-use Rattle.acceptance.specs.Acceptance.{hiWithin, hiJobs, hiReleases, hiDeadlines, check8At, check8}
-use Rattle.acceptance_promise.specs.Promise.{jobAt, windowsOf, InOrder, hiOf, A1}
+use Rattle.window_sums.specs.WindowSums.{hiWithin, hiJobs, hiReleases, hiDeadlines, check8At, check8}
+use Rattle.well_formed.specs.InOrder.{jobAt, InOrder}
+use Rattle.spare_theory.specs.Promise.{windowsOf, hiOf, A1}
 use Rattle.answers.specs.RefusalLaws.{either-true, neither-true, unless-holds, unless-fails, some-refused}
-use Rattle.acceptance_promise.specs.InOrderLaws.{among-jobs, jobs-length, job-in}
-use Rattle.acceptance_promise.specs.MemberLaws.{member-map, rising-has, member-accepted}
-use Rattle.acceptance_promise.specs.TableLaws.{hi-left-case}
+use Rattle.well_formed.specs.InOrderLaws.{among-jobs, jobs-length, job-in}
+use Rattle.words.specs.MemberLaws.{member-map}
+use Rattle.acceptance_promise.specs.MemberLaws.{rising-has, member-accepted}
+use Rattle.spare_theory.specs.TableLaws.{hi-left-case}
 
 -- a sum over a list is the total over its places
 sum-total : {A : Type 0} (f : A → ℕ) (d : A) (xs : List A) → sum (map f xs) ≡ total (length xs) (λ k. f (getD xs k d))

@@ -1,11 +1,9 @@
 -- Check 9 passes exactly when A2 holds; a refusal shows a border by which too much may be asked. With check 8: what acceptance promises.
-use Prim.Native.Nat.{ℕ, zero, suc, _+_, _-_, _≤_, _<_}
-use native.Mathlib.Nat.{not-suc-le-zero, le-of-suc-le-suc}
+use Prim.Native.Nat.{ℕ, suc, _+_, _-_, _≤_, _<_}
 use native.Mathlib.Omega.{arith}
 use mathlib.Core.Path.{_≡_, refl, _∙_}
 use mathlib.Core.Logic.{_⊎_, inl, inr, ⊎-elim, _↔_}
 use mathlib.Core.Bool.{Bool, true, false, not}
-use mathlib.Core.List.{List, [], _∷_, zipWith}
 use lib.ListN.{length, getD}
 use borrow.Author.Tests.{not-true, not-false}
 use Rattle.words.specs.Words.{_<?_, below0}
@@ -19,13 +17,16 @@ use Rattle.plan.specs.Limits.{maxSlots, maxJobs}
 use Rattle.plan.specs.Plan.{jobsOf, slotsOf, blankJob, countsAt}
 use Rattle.plan.specs.CountLaws.{counts-at, counts-length}
 use Rattle.intervals.specs.Spares.{hiLeft, row, current}
-use Rattle.acceptance.specs.Acceptance.{wellFormed, check8, alongTable, check9, acceptance}
-use Rattle.acceptance_promise.specs.Promise.{jobAt, windowsOf, tab, InOrder, hiOf, asked, A1, A2}
+use Rattle.well_formed.specs.WellFormed.{wellFormed}
+use Rattle.window_sums.specs.WindowSums.{check8}
+use Rattle.acceptance.specs.Acceptance.{alongTable, check9, acceptance}
+use Rattle.well_formed.specs.InOrder.{jobAt, tab, InOrder}
+use Rattle.spare_theory.specs.Promise.{windowsOf, hiOf, asked, A1, A2}
 use Rattle.words.specs.ZipLaws.{zip-at}
 use Rattle.answers.specs.RefusalLaws.{both-accept, one-refused, unless-holds, unless-fails, each-accepted, some-refused}
-use Rattle.acceptance_promise.specs.InOrderLaws.{in-order, among-jobs, jobs-length, slots-length}
-use Rattle.acceptance_promise.specs.TableLaws.{asked-due}
-use Rattle.acceptance_promise.specs.SpareLaws.{not-below-exactly, below-shows}
+use Rattle.well_formed.specs.InOrderLaws.{in-order, among-jobs, jobs-length, slots-length}
+use Rattle.spare_theory.specs.TableLaws.{asked-due}
+use Rattle.spare_theory.specs.SpareLaws.{not-below-exactly, below-shows}
 use Rattle.acceptance_promise.specs.Check8Laws.{a1-holds, a1-broken}
 
 module _ (p : Plan) (ok : InOrder p) where

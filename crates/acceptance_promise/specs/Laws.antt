@@ -4,28 +4,30 @@ use mathlib.Core.Path.{_≡_}
 use mathlib.Core.Logic.{_⊎_, _↔_}
 use mathlib.Core.Bool.{true, false}
 use mathlib.Core.List.{List}
-use lib.ListN.{length, getD}
+use lib.ListN.{getD}
 use Rattle.words.specs.Words.{below0, above0}
 use Rattle.answers.specs.Answer.{accepted}
 use Rattle.windows.specs.Windows.{dueBy, within, InTime}
 use Rattle.plan.specs.declared.Plan.{Plan}
-use Rattle.plan.specs.Limits.{maxSlots, maxJobs}
 use Rattle.intervals.specs.Intervals.{intervals}
 use Rattle.intervals.specs.Spares.{row, current}
-use Rattle.acceptance.specs.Acceptance.{wellFormed, check8, check9, acceptance}
-use Rattle.acceptance_promise.specs.Promise.{jobAt, windowsOf, InOrder, hiOf, asked, A1, A2}
-use Rattle.acceptance_promise.specs.Chain.{Quiet, Chain}
-use Rattle.acceptance_promise.specs.Spares.{Least}
-use Rattle.acceptance_promise.specs.InOrderLaws.{in-order}
-use Rattle.acceptance_promise.specs.ChainLaws.{intervals-chain}
-use Rattle.acceptance_promise.specs.SpareLaws.{spare-least, not-below-exactly, above-exactly}
-use Rattle.acceptance_promise.specs.TableLaws.{a1-of-a2}
+use Rattle.acceptance.specs.Acceptance.{check9, acceptance}
+use Rattle.well_formed.specs.WellFormed.{wellFormed}
+use Rattle.window_sums.specs.WindowSums.{check8}
+use Rattle.well_formed.specs.InOrder.{jobAt, InOrder, Sized}
+use Rattle.spare_theory.specs.Promise.{windowsOf, hiOf, asked, A1, A2}
+use Rattle.spare_theory.specs.Chain.{Quiet, Chain}
+use Rattle.spare_theory.specs.Spares.{Least, currentEnd}
+use Rattle.well_formed.specs.InOrderLaws.{in-order}
+use Rattle.spare_theory.specs.ChainLaws.{intervals-chain}
+use Rattle.spare_theory.specs.SpareLaws.{spare-least, not-below-exactly, above-exactly}
+use Rattle.spare_theory.specs.TableLaws.{a1-of-a2}
 use Rattle.acceptance_promise.specs.Check8Laws.{a1-exactly}
 use Rattle.acceptance_promise.specs.Check9Laws.{a2-exactly, accepted-promise, refused-promise}
 
 -- a plan record that passes 2 to 7 is in order
-pub passes-in-order : (p : Plan) → length (p .job) ≡ maxJobs → length (p .table) ≡ maxSlots → accepted (wellFormed p) ≡ true → InOrder p
-passes-in-order = in-order
+pub passes-in-order : (p : Plan) → Sized p → accepted (wellFormed p) ≡ true → InOrder p
+passes-in-order p sized = in-order p (sized .0) (sized .1)
 
 module _ (p : Plan) (ok : InOrder p) where
   -- the intervals cover 0 to N end to end, and no deadline lies inside one
@@ -34,8 +36,9 @@ module _ (p : Plan) (ok : InOrder p) where
 
   -- the spares, of any list of work at a border t < N
   module _ (ws : List ℕ) (t : ℕ) (before : t < p .slots) where
-    -- S1: the current spare is the least, over the borders e from the end b of the current interval on, of e - t less the work due after t and by e
-    pub S1 : (b : ℕ) × (t < b) × Quiet p t b × Least p ws t b (intervals p) (current p t (row p t ws))
+    -- S1: the current spare is the least, over the borders e from the end of the current interval on, of e - t less the work due after t and by e;
+    -- that end is after t, and no deadline lies between
+    pub S1 : (t < currentEnd p t) × Quiet p t (currentEnd p t) × Least p ws t (currentEnd p t) (intervals p) (current p t (row p t ws))
     S1 = spare-least p ok ws t before
 
     -- S2, no work being due at or before t: the current spare is not below 0 exactly when for all e the work due by e is e - t at most,
@@ -61,8 +64,8 @@ module _ (p : Plan) (ok : InOrder p) where
   A1-of-A2 = a1-of-a2 p ok
 
 -- an accepted plan is in order, and A1 and A2 hold
-pub accepted-has : (p : Plan) → length (p .job) ≡ maxJobs → length (p .table) ≡ maxSlots → accepted (acceptance p) ≡ true → InOrder p × A1 p × A2 p
-accepted-has = accepted-promise
+pub accepted-has : (p : Plan) → Sized p → accepted (acceptance p) ≡ true → InOrder p × A1 p × A2 p
+accepted-has p sized = accepted-promise p (sized .0) (sized .1)
 
 -- a plan in order that is refused breaks A1 or A2, at places that are found
 pub refused-has : (p : Plan) → InOrder p → accepted (wellFormed p) ≡ true → accepted (acceptance p) ≡ false

@@ -1,30 +1,16 @@
--- Members of lists: by place, through a map, through rising order, and along a list of answers. Nothing here is of the trade.
-use Prim.Native.Nat.{ℕ, zero, suc, _<_}
+-- Members of lists: through rising order, and along a list of answers. Nothing here is of the trade.
+use Prim.Native.Nat.{ℕ, suc, _<_}
 use native.Mathlib.Decide.{decLt, ℕ-discrete}
-use native.Mathlib.Nat.{not-suc-le-zero, le-of-suc-le-suc}
 use native.Mathlib.Omega.{arith}
-use mathlib.Core.Path.{_≡_, refl, ap}
+use mathlib.Core.Path.{_≡_, refl}
 use mathlib.Core.Bool.{true}
-use mathlib.Core.List.{List, [], _∷_, map, List·Memᴰ, List·Memᴰ·head, List·Memᴰ·tail}
-use lib.ListN.{length, getD}
+use mathlib.Core.List.{List, [], _∷_, List·Memᴰ, List·Memᴰ·head, List·Memᴰ·tail}
 use borrow.Author.Tests.{lt-ltb, le-ltb, eq-eqb, ne-eqb}
 use Rattle.words.specs.Words.{if_then_else_, _<?_, _=?_}
 use Rattle.answers.specs.declared.Answer.{Answer}
 use Rattle.answers.specs.Answer.{accepted, firstRefusal}
 use Rattle.intervals.specs.Intervals.{insert, rising}
 use Rattle.answers.specs.RefusalLaws.{both-accept}
-
--- ---- by place
--- what stands at a place is a member
-pub member-at : {A : Type 0} (d : A) (xs : List A) (i : ℕ) → i < length xs → List·Memᴰ (getD xs i d) xs
-member-at d [] i l = absurd (not-suc-le-zero l)
-member-at d (x ∷ xs) zero l = List·Memᴰ·head refl
-member-at d (x ∷ xs) (suc i) l = List·Memᴰ·tail (member-at d xs i (le-of-suc-le-suc l))
-
--- ---- through a map
-pub member-map : {A B : Type 0} (f : A → B) {x : A} {xs : List A} → List·Memᴰ x xs → List·Memᴰ (f x) (map f xs)
-member-map f (List·Memᴰ·head e) = List·Memᴰ·head (ap f e)
-member-map f (List·Memᴰ·tail m) = List·Memᴰ·tail (member-map f m)
 
 -- ---- in rising order
 -- the three ways of an insertion

@@ -5,7 +5,7 @@ use mathlib.Core.Bool.{Bool, true}
 use Rattle.plan.specs.declared.Plan.{Plan}
 use Rattle.plan.specs.Plan.{isHi, tableAt}
 use Rattle.intervals.specs.Spares.{hiLeft}
-use Rattle.acceptance_promise.specs.Promise.{jobAt, tab}
+use Rattle.well_formed.specs.InOrder.{jobAt, tab}
 
 module _ (p : Plan) where
   -- the HI work left: hi less the slots given, of the live HI jobs

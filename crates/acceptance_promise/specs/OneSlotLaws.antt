@@ -11,9 +11,10 @@ use Rattle.windows.specs.Windows.{InTime, Feasible, NoMore}
 use Rattle.windows.specs.WindowLaws.{met, earliest-keeps, nobody-keeps, spare-keeps}
 use Rattle.plan.specs.declared.Plan.{Plan}
 use Rattle.plan.specs.Plan.{isHi, tableAt}
-use Rattle.acceptance_promise.specs.Promise.{jobAt, windowsOf, tab, InOrder, asked, A2}
-use Rattle.acceptance_promise.specs.CountLaws.{tab-start, tab-last}
-use Rattle.acceptance_promise.specs.TableLaws.{hi-left, hi-left-case, hi-left-small, asked-high, feasible, asked-in-time, a1-of-a2, tab-due, overrun-in-time}
+use Rattle.well_formed.specs.InOrder.{jobAt, tab, InOrder}
+use Rattle.spare_theory.specs.Promise.{windowsOf, asked, A2}
+use Rattle.spare_theory.specs.CountLaws.{tab-start, tab-last}
+use Rattle.spare_theory.specs.TableLaws.{hi-left, hi-left-case, hi-left-small, asked-high, feasible, asked-in-time, a1-of-a2, tab-due, overrun-in-time}
 use Rattle.acceptance_promise.specs.OneSlot.{hiRemaining, OnTable, SlotTo, TableFirst, EarliestHi, NoHiReady}
 
 module _ (p : Plan) where

@@ -1,1 +1,1 @@
-// What spares and acceptance promise to whoever stands above: specs/ has the laws. No code.
+// What acceptance promises to whoever stands above: specs/ has the laws. No code.

@@ -10,7 +10,9 @@ use Rattle.plan.specs.Rules.{check2, check3, windowHolds, budgetHolds, windowsH
 use Rattle.plan_text.specs.Read.{levelIn, nextJob, nextPlan, onlyPlan, readPlan}
 use Rattle.intervals.specs.Intervals.{insert, rising, leastRelease, intervalsFrom, intervals, past}
 use Rattle.intervals.specs.Spares.{hiLeft, loLeft, remaining, spare, spares, row, current}
-use Rattle.acceptance.specs.Acceptance.{check4, check5, slotHolds, check6, check7, wellFormed, hiWithin, hiJobs, check8At, check8, alongTable, check9, acceptance}
+use Rattle.well_formed.specs.WellFormed.{check4, check5, slotHolds, check6, check7, wellFormed}
+use Rattle.window_sums.specs.WindowSums.{hiWithin, hiJobs, check8At, check8}
+use Rattle.acceptance.specs.Acceptance.{alongTable, check9, acceptance}
 use Rattle.acceptance.specs.Analysis.{analysis}
 use Rattle.executive.specs.Run.{hiWork, loWork, freshHi, freshLo, start}
 use Rattle.entries.specs.Entry.{standingHolds, standingAfter, ranOn, expiredEntry, pastLo, settled}

@@ -12,19 +12,18 @@ use borrow.Author.Tests.{lt-ltb, le-ltb, ltb-true, ltb-false, leb-true, leb-fals
 use Rattle.words.specs.Words.{if_then_else_, _≤?_, _<?_, _=?_}
 use Rattle.words.specs.Cases.{by-test, by-less, by-equal, both-hold}
 use Rattle.answers.specs.declared.Answer.{Answer}
-use Rattle.answers.specs.declared.Answer.the-variants.{Accepted, SlotLimit, Form, Incoherent, Over}
+use Rattle.answers.specs.declared.Answer.the-variants.{Accepted, Form, Incoherent, Over}
 use Rattle.answers.specs.Answer.{accepted, _unless_, _andThen_}
 use Rattle.answers.specs.RefusalLaws.{unless-holds, both-accept}
 use Rattle.lines.specs.Lines.{bytes, number, Cursor, Read, got, refused, lineLength, lineOn, orForm, valueIn, field}
 use Rattle.lines.specs.RoundLaws.{cursor, unread, got-same}
 use Rattle.plan.specs.declared.Plan.{Plan}
-use Rattle.plan.specs.Limits.{maxSlots, oneTo}
-use Rattle.plan.specs.Rules.{check2}
 use Rattle.plan_text.specs.Read.{nextPlan, startOf, readPlan}
 use Rattle.plan_text.specs.Reader.{planPrefix}
-use Rattle.plan_text.specs.PrefixLaws.{keeps-limit, prefix-stands, prefix-refused}
+use Rattle.plan_text.specs.PrefixLaws.{prefix-stands, prefix-refused}
 use Rattle.plan_text.specs.DecidedLaws.{enough, plan-goes, plan-stays, text-stays}
-use Rattle.acceptance.specs.Acceptance.{wellFormed}
+use Rattle.well_formed.specs.WellFormed.{wellFormed}
+use Rattle.well_formed.specs.InOrderLaws.{slot-limit}
 use Rattle.executive.specs.declared.Run.{Run}
 use Rattle.executive.specs.declared.Report.{Report}
 use Rattle.executive.specs.Run.{start}
@@ -68,15 +67,14 @@ module _ (r : Run) (report : Report) (h : accepted (step r report .answer) ≡ t
   step-on = rw answered
 
   pub step-early : r .t < 512
-  unfolding reportAnswer canGoOn coherent wellFormed check2 accepted
+  unfolding reportAnswer canGoOn coherent accepted
   step-early =
       let go = both-accept (canGoOn r) _ answered .0 in
       let two = both-accept (Incoherent unless coherent r) (Over (r .t) unless (r .t <? r .plan .slots)) go in
       let slot : r .t < r .plan .slots = ltb-true _ _ (unless-holds (Over (r .t)) (r .t <? r .plan .slots) refl (two .1)) in
       let sound : coherent r ≡ true = unless-holds Incoherent (coherent r) refl (two .0) in
       let formed : accepted (wellFormed (r .plan)) ≡ true = first-holds (accepted (wellFormed (r .plan))) _ _ _ _ sound in
-      let few : r .plan .slots ≤ maxSlots = keeps-limit maxSlots (r .plan .slots) SlotLimit (check2 (r .plan)) refl refl (both-accept (check2 (r .plan)) _ formed .0) in
-      omega arith
+      omega (arith, slot-limit (r .plan) formed)
 
 -- ---- the report lines of a text
 

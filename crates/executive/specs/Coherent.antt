@@ -6,12 +6,14 @@ use lib.IntN.{ℤ, pos, negsuc}
 use Rattle.words.specs.Words.{_≤?_, _=?_, every}
 use Rattle.plan.specs.Plan.{jobsOf}
 use Rattle.answers.specs.Answer.{accepted}
-use Rattle.acceptance.specs.Acceptance.{wellFormed}
+use Rattle.well_formed.specs.WellFormed.{wellFormed}
 use Rattle.plan.specs.declared.Job.{Job}
 use Rattle.entries.specs.declared.Entry.{Entry}
 use Rattle.entries.specs.Entry.{entryHolds}
 use Rattle.executive.specs.declared.Run.{Run}
 use Rattle.executive.specs.Run.{freshHi, freshLo}
+use Rattle.entries.specs.declared.Standing.{Standing}
+use Rattle.entries.specs.declared.Standing.the-variants.{Waiting, Finished, Cut, Dropped}
 
 -- the entries of these jobs hold at border t
 abbrev pub allHold : ℕ → List Job → List Entry → Bool

@@ -6,21 +6,19 @@ use mathlib.Core.Bool.{Bool, true, false, not, _&&_, _||_, false≢true}
 use mathlib.Core.Path.{_≡_, refl, sym, subst, _∙_}
 use mathlib.Core.List.{List, [], _∷_, zipWith}
 use lib.ListN.{length, getD}
-use lib.Seq.{length-take-le, getD-take}
-use borrow.Author.Tests.{leb-true, ltb-true, ne-eqb}
-use Rattle.words.specs.Words.{if_then_else_, _≤?_, _<?_, _=?_, below0, above0, every}
+use borrow.Author.Tests.{leb-true, ltb-true}
+use Rattle.words.specs.Words.{if_then_else_, _≤?_, below0, above0, every}
 use Rattle.words.specs.Cases.{both-hold}
-use Rattle.answers.specs.declared.Answer.{Answer}
-use Rattle.answers.specs.declared.Answer.the-variants.{SlotLimit, JobLimit, Budget, TableSlot}
-use Rattle.answers.specs.Answer.{accepted, _unless_, _andThen_}
-use Rattle.answers.specs.RefusalLaws.{unless-holds, both-accept, each-accepted}
+use Rattle.answers.specs.Answer.{accepted}
 use Rattle.plan.specs.declared.Job.{Job}
 use Rattle.plan.specs.declared.Plan.{Plan}
 use Rattle.plan.specs.Counts.{maxCount}
 use Rattle.plan.specs.Limits.{maxSlots, maxJobs, oneTo}
-use Rattle.plan.specs.Plan.{jobsOf, slotsOf, jobNo, tableAt, blankJob, isHi}
+use Rattle.plan.specs.Plan.{jobsOf, tableAt, blankJob, isHi, slotsOf, jobNo}
+use Rattle.well_formed.specs.WellFormed.{wellFormed, check4, check5, check6, check7, slotHolds}
+use Rattle.well_formed.specs.InOrder.{InOrder}
+use Rattle.well_formed.specs.InOrderLaws.{in-order}
 use Rattle.plan.specs.Rules.{check2, check3, budgetHolds}
-use Rattle.acceptance.specs.Acceptance.{check4, check5, check6, check7, slotHolds, wellFormed}
 use Rattle.entries.specs.declared.Standing.{Standing}
 use Rattle.entries.specs.declared.Stands.{Stands}
 use Rattle.entries.specs.declared.Stands.the-variants.{Live, Ended}
@@ -37,47 +35,7 @@ use Rattle.executive.specs.Choice.{ready, readyHi, chosenT, chosenH, cho
 use Rattle.executive.specs.MemberLaws.{Full, members-all, members-hi, members-length, member-at}
 use Rattle.executive.specs.Sound.{Sound, Countable}
 use Rattle.words.specs.ZipLaws.{zipped-length, zipped-at}
-
--- what is used of checks 2 to 7
-record Checked (p : Plan) : Type 0 where
-  slots : p .slots ≤ maxSlots
-  jobs : p .jobs ≤ maxJobs
-  budget : accepted (check5 p) ≡ true
-  table : accepted (check6 p) ≡ true
-
-checked : (p : Plan) → accepted (wellFormed p) ≡ true → Checked p
-unfolding wellFormed check2 check3 accepted
-checked p h =
-    let a = both-accept (check2 p) (check3 p andThen check4 p andThen check5 p andThen check6 p andThen check7 p) h in
-    let b = both-accept (check3 p) (check4 p andThen check5 p andThen check6 p andThen check7 p) (a .1) in
-    let c = both-accept (check4 p) (check5 p andThen check6 p andThen check7 p) (b .1) in
-    let d = both-accept (check5 p) (check6 p andThen check7 p) (c .1) in
-    let e = both-accept (check6 p) (check7 p) (d .1) in
-    record {
-      slots = leb-true (p .slots) maxSlots (both-hold (1 ≤? p .slots) (p .slots ≤? maxSlots) (unless-holds SlotLimit (oneTo maxSlots (p .slots)) refl (a .0)) .1);
-      jobs = leb-true (p .jobs) maxJobs (both-hold (1 ≤? p .jobs) (p .jobs ≤? maxJobs) (unless-holds JobLimit (oneTo maxJobs (p .jobs)) refl (b .0)) .1);
-      budget = d .0;
-      table = e .0;
-    }
-
-pub few-jobs : (p : Plan) → accepted (wellFormed p) ≡ true → p .jobs ≤ maxJobs
-few-jobs p h = checked p h .jobs
-
--- a job's hi is within the slots
-budget-hi : (N : ℕ) (j : Job) → budgetHolds N j ≡ true → j .hi ≤ N
-unfolding budgetHolds
-budget-hi N j h =
-    let a = both-hold ((1 ≤? j .lo) && (j .lo ≤? j .hi) && (j .hi ≤? N)) (isHi j || (j .lo =? j .hi)) h .0 in
-    leb-true (j .hi) N (both-hold ((1 ≤? j .lo) && (j .lo ≤? j .hi)) (j .hi ≤? N) a .1)
-
--- a slot that holds names one of the n jobs, or none
-slot-names : (p : Plan) (t k : ℕ) → slotHolds p t k ≡ true → k ≤ p .jobs
-unfolding slotHolds
-slot-names p t zero h = zero-le
-slot-names p t (suc k) h =
-    let j = jobNo p (suc k) in
-    let a = both-hold ((suc k ≤? p .jobs) && (j .release ≤? t)) (t <? j .deadline) (rw (ne-eqb (suc k) 0 (λ (e : suc k ≡ 0). omega arith)) at h) .0 in
-    leb-true (suc k) (p .jobs) (both-hold (suc k ≤? p .jobs) (j .release ≤? t) a .0)
+use Rattle.entries.specs.declared.Standing.the-variants.{Waiting, Finished, Cut, Dropped}
 
 -- a live job that holds has fewer slots than hi
 live-below : (t hi given : ℕ) (s : Standing) → standingHolds t hi given s ≡ true → waiting s ≡ true → given < hi
@@ -110,40 +68,34 @@ module _ (r : Run) (h : coherent r ≡ true) (before : r .t < r .plan .slots) (j
       let c = both-hold (accepted (wellFormed (r .plan)) && (r .t ≤? r .plan .slots)) (entriesHold r) b in
       (both-hold (accepted (wellFormed (r .plan))) (r .t ≤? r .plan .slots) (c .0) .0, c .1)
 
-  passes : Checked (r .plan)
-  passes = checked (r .plan) (clauses .0)
+  -- its plan is in order: all that is used of checks 2 to 7
+  ok : InOrder (r .plan)
+  ok = in-order (r .plan) jobs table (clauses .0)
 
   pub full : Full r
-  full = record { few = passes .jobs; jobs = jobs; entries = entries }
+  full = record { few = ok .jobs .1; jobs = jobs; entries = entries }
 
   named : tableAt (r .plan) (r .t) ≤ r .plan .jobs
-  unfolding check6 accepted
-  named =
-      let s = passes .slots in
-      let l : length (slotsOf (r .plan)) ≡ r .plan .slots = length-take-le (r .plan .slots) (r .plan .table) (omega arith) in
-      let a = each-accepted (λ t k. TableSlot t unless slotHolds (r .plan) t k) 0 0 (slotsOf (r .plan)) (passes .table) (r .t) (omega arith) (0 + r .t) refl in
-      let b = unless-holds (TableSlot (0 + r .t)) (slotHolds (r .plan) (0 + r .t) (getD (slotsOf (r .plan)) (r .t) 0)) refl a in
-      rw (getD-take (r .plan .slots) (r .plan .table) (r .t) 0 before) at (slot-names (r .plan) (0 + r .t) (getD (slotsOf (r .plan)) (r .t) 0) b)
+  named = go (tableAt (r .plan) (r .t)) refl
+    where
+      go : (k : ℕ) → tableAt (r .plan) (r .t) ≡ k → k ≤ r .plan .jobs
+      go zero e = zero-le
+      go (suc k) e = ok .names (r .t) before k e .0
 
   pub sound : Sound r
-  sound = record { few = passes .jobs; border = (let s = passes .slots in omega arith); named = (let n = named in let m = passes .jobs in omega arith) }
+  sound = record { few = ok .jobs .1; border = omega (arith, ok .slots); named = omega (arith, named, ok .jobs) }
 
   -- a live job can be given one slot more
   live-countable : (i : ℕ) → i < r .plan .jobs → live (getD (r .entry) i freshEntry) ≡ true → getD (r .entry) i freshEntry .given < maxCount
-  unfolding entriesHold check5 accepted
+  unfolding entriesHold
   live-countable i l v =
-      let few = passes .jobs in
+      let few = ok .jobs .1 in
       let f = entryHolds (r .t) in
       let n = zipped-length f (r .plan .job) (r .entry) (r .plan .jobs) (omega arith) (omega arith) in
       let a = every-at (zipWith f (jobsOf (r .plan)) (r .entry)) i (omega arith) (clauses .1) in
       let b = sym (zipped-at f (r .plan .job) (r .entry) (r .plan .jobs) (omega arith) (omega arith) i blankJob freshEntry false l) ∙ a in
       let c = live-below (r .t) (getD (r .plan .job) i blankJob .hi) (getD (r .entry) i freshEntry .given) (getD (r .entry) i freshEntry .standing) b v in
-      let m : length (jobsOf (r .plan)) ≡ r .plan .jobs = length-take-le (r .plan .jobs) (r .plan .job) (omega arith) in
-      let d = each-accepted (λ k j. Budget k unless budgetHolds (r .plan .slots) j) blankJob 1 (jobsOf (r .plan)) (passes .budget) i (omega arith) (1 + i) refl in
-      let e = unless-holds (Budget (1 + i)) (budgetHolds (r .plan .slots) (getD (jobsOf (r .plan)) i blankJob)) refl d in
-      let g = budget-hi (r .plan .slots) (getD (r .plan .job) i blankJob) (rw (getD-take (r .plan .jobs) (r .plan .job) i blankJob l) at e) in
-      let s = passes .slots in
-      omega arith
+      omega (arith, ok .most i l, ok .slots)
 
   -- so is every member of a ready set
   member-countable : (hi : Bool) (i : ℕ) → i < length (members hi r) → getD (members hi r) i false ≡ true → Countable r (Slot.Job (1 + i))
@@ -151,7 +103,7 @@ module _ (r : Run) (h : coherent r ≡ true) (before : r .t < r .plan .slots) (j
       let n = members-length hi r full in
       let w = sym (member-at hi r full i blankJob freshEntry (omega arith)) ∙ m in
       let e : 1 + i - 1 ≡ i = omega arith in
-      let few = passes .jobs in
+      let few = ok .jobs .1 in
       ((omega arith), (rw e (live-countable i (omega arith) (member-live hi (r .t) (getD (r .plan .job) i blankJob) (getD (r .entry) i freshEntry) w))))
 
   earliest-countable : (hi : Bool) → Countable r (earliest (r .plan .job) (members hi r))
@@ -169,7 +121,7 @@ module _ (r : Run) (h : coherent r ≡ true) (before : r .t < r .plan .slots) (j
       table-or : (b : Bool) → ((1 ≤? k) && live (entryNo r k)) ≡ b → Countable r (if b then Slot.Job k else earliest (r .plan .job) (ready r))
       table-or true q =
           let some = leb-true 1 k (both-hold (1 ≤? k) (live (entryNo r k)) q .0) in
-          let few = passes .jobs in
+          let few = ok .jobs .1 in
           let n = named in
           ((omega arith), (live-countable (k - 1) (omega arith) (both-hold (1 ≤? k) (live (entryNo r k)) q .1)))
       table-or false q = rw members-all at (earliest-countable false)

@@ -76,7 +76,7 @@ impl Run {
         ensures { λ r. ⌜ r ≡ coherent self ⌝ }
     {
         let p = self.plan;
-        let answer = acceptance::well_formed(p);
+        let answer = well_formed::well_formed(p);
         if !answers::is_accepted(answer) {
             return false;
         }

@@ -9,17 +9,16 @@ use borrow.Author.Tests.{leb-true, le-leb}
 use Rattle.words.specs.Words.{_≤?_, above0, below0}
 use Rattle.plan.specs.declared.Job.{Job}
 use Rattle.plan.specs.Plan.{jobNo, isHi, tableAt}
-use Rattle.acceptance_promise.specs.Promise.{InOrder}
+use Rattle.well_formed.specs.InOrder.{InOrder, JobOf}
 use Rattle.words.specs.Cases.{both-hold, never}
 use Rattle.executive.specs.declared.Phase.{Phase}
 use Rattle.executive.specs.declared.Phase.the-variants.{T, H}
 use Rattle.executive.specs.declared.Run.{Run}
-use Rattle.ready.specs.declared.Slot.{Slot}
-use Rattle.entries.specs.Entry.{live}
 use Rattle.executive.specs.Run.{entryNo, currentHi, currentLo}
 use Rattle.executive.specs.Choice.{chosen, ready, readyHi, chosenT, chosenH}
+use Rattle.ready.specs.declared.Slot.{Slot}
+use Rattle.entries.specs.Entry.{live}
 use Rattle.ready.specs.Ready.{earliest, isReady}
-use Rattle.promises.specs.Demands.{JobOf}
 use Rattle.promises.specs.Chosen.{Ready, EarliestReady, EarliestReadyHi}
 use Rattle.promises.specs.General.{joined}
 use Rattle.promises.specs.EarliestLaws.{earliest-of}

@@ -9,7 +9,7 @@ use lib.ListN.{length, getD, length-append, List·getD-append}
 use lib.Seq.{getD-at}
 use borrow.Author.Tests.{eqb-true}
 use Rattle.words.specs.Words.{_=?_}
-use Rattle.acceptance_promise.specs.Promise.{jobAt}
+use Rattle.well_formed.specs.InOrder.{jobAt}
 use Rattle.acceptance_promise.specs.OneSlot.{SlotTo}
 use Rattle.acceptance_promise.specs.OneSlotLaws.{table-met}
 use Rattle.entries.specs.declared.Entry.{Entry}
@@ -19,8 +19,9 @@ use Rattle.executive.specs.declared.Report.{Report}
 use Rattle.entries.specs.Entry.{live}
 use Rattle.executive.specs.Choice.{chosen}
 use Rattle.executive.specs.Step.{nextRun}
+use Rattle.promises.specs.Told.{jobRun}
+use Rattle.promises.specs.Demands.{Event, event, jobsRun}
 use Rattle.entries.specs.declared.Kind.the-variants.{None}
-use Rattle.promises.specs.Demands.{jobRun, Event, event, jobsRun}
 use Rattle.promises.specs.Runs.{reportedEntry, Taken, Recorded, entryAt, givenAt, liveAt, Kept}
 use Rattle.promises.specs.Ends.{EndTells, DropTells}
 use Rattle.promises.specs.NextLaws.{live-fewer, reported-given, reported-alive, reported-holds}

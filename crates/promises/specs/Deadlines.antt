@@ -9,24 +9,24 @@ use mathlib.Core.List.{List}
 use lib.ListN.{length, getD}
 use Rattle.plan.specs.declared.Plan.{Plan}
 use Rattle.plan.specs.Plan.{jobNo, isHi, naming}
-use Rattle.acceptance_promise.specs.Promise.{jobAt, InOrder, A2}
 use Rattle.words.specs.Cases.{never}
-use Rattle.acceptance_promise.specs.InOrderLaws.{in-order}
-use Rattle.acceptance_promise.specs.Laws.{accepted-has}
+use Rattle.acceptance_promise.specs.Laws.{passes-in-order, accepted-has}
+use Rattle.well_formed.specs.InOrder.{jobAt, InOrder, JobOf}
+use Rattle.spare_theory.specs.Promise.{A2}
+use Rattle.well_formed.specs.InOrderLaws.{place-of}
 use Rattle.executive.specs.declared.Run.{Run}
 use Rattle.executive.specs.declared.Report.{Report}
 use Rattle.executive.specs.Run.{entryNo}
 use Rattle.entries.specs.Entry.{waiting}
 use Rattle.executive.specs.Choice.{chosen}
 use Rattle.executive.specs.Step.{nextRun}
+use Rattle.promises.specs.Demands.{Event, jobsRun, Demand3a, Demand3b, FinishedInTime, HadWholeBudget, Reached, started, stepped}
 use Rattle.entries.specs.declared.Standing.{Standing}
 use Rattle.entries.specs.declared.Standing.the-variants.{Waiting, Finished, Cut, Dropped}
-use Rattle.promises.specs.Demands.{JobOf, Event, jobsRun, Demand3a, Demand3b, FinishedInTime, HadWholeBudget, Reached, started, stepped}
 use Rattle.promises.specs.Runs.{Taken, entryAt, givenAt, Kept}
 use Rattle.promises.specs.Ends.{EndTells, MetIn}
 use Rattle.promises.specs.NextLaws.{next-plan, given-within}
 use Rattle.promises.specs.RecordLaws.{next-run, taken, start-accepted, start-run, accepted-well-formed}
-use Rattle.promises.specs.PhaseLaws.{place-of}
 use Rattle.promises.specs.KeptLaws.{live-open, kept-next, fresh, kept-start}
 use Rattle.promises.specs.EndLaws.{naming-inside}
 use Rattle.promises.specs.History.{reached-plan, reached-recorded, reached-t, reached-given}
@@ -45,7 +45,7 @@ module _ (p : Plan) (a2 : A2 p) where
 
   -- the invariant
   pub reached-kept : {h : List Event} {r : Run} → Reached p h r → Kept p r
-  reached-kept (started sz e) = rw (start-run p e) (kept-start p (in-order p (sz .0) (sz .1) (accepted-well-formed p (start-accepted p e))) a2)
+  reached-kept (started sz e) = rw (start-run p e) (kept-start p (passes-in-order p sz (accepted-well-formed p (start-accepted p e))) a2)
   reached-kept (stepped {r = r} report q e) = rw (next-run r report e) (kept-step q report (taken r report e) (reached-kept q))
 
   -- over the run's own plan
@@ -54,7 +54,7 @@ module _ (p : Plan) (a2 : A2 p) where
 
   -- every end tells
   pub reached-ends : {h : List Event} {r : Run} → Reached p h r → (k : ℕ) → k < r .plan .jobs → EndTells h (jobAt (r .plan) k) (givenAt r k) (entryAt r k .standing)
-  reached-ends (started sz e) = rw (start-run p e) (λ k l. let q = fresh p (in-order p (sz .0) (sz .1) (accepted-well-formed p (start-accepted p e))) a2 k l in rw q tt)
+  reached-ends (started sz e) = rw (start-run p e) (λ k l. let q = fresh p (passes-in-order p sz (accepted-well-formed p (start-accepted p e))) a2 k l in rw q tt)
   reached-ends (stepped {h = h} {r = r} report q e) =
       rw (next-run r report e, next-plan r (chosen r) (report .kind))
       (λ k l. ends-next h r (reached-recorded q) report (taken r report e) (kept-own q) (reached-t q) k l (reached-ends q k l))
@@ -97,7 +97,7 @@ module _ (p : Plan) (a2 : A2 p) where
 
 -- an accepted plan's A2
 reached-a2 : {p : Plan} {h : List Event} {r : Run} → Reached p h r → A2 p
-reached-a2 {p} (started sz e) = accepted-has p (sz .0) (sz .1) (start-accepted p e) .2
+reached-a2 {p} (started sz e) = accepted-has p sz (start-accepted p e) .2
 reached-a2 (stepped report q e) = reached-a2 q
 
 -- the invariant of every run that comes from a start
@@ -116,7 +116,7 @@ demand-3b p h r q k l low due phase = reached-met p (reached-a2 q) q k l due (in
 pub all-hi-met : (p : Plan) (h : List Event) (r : Run) → Reached p h r → r .t ≡ p .slots → (k : ℕ) → JobOf p k → isHi (jobNo p k) ≡ true → FinishedInTime p r k ⊎ HadWholeBudget p h r k
 all-hi-met p h r q over k l high =
     let order : InOrder p = subst InOrder (reached-plan q) (reached-recorded q .order) in
-    let ends = order .ends (k - 1) (place-of p k l) in
+    let ends = order .ends (k - 1) (place-of p k l .1) in
     demand-3a p h r q k l high (omega arith)
 
 -- no job has a slot outside its window
@@ -126,8 +126,8 @@ never-outside p h r q = subst (λ (x : Plan). (k : ℕ) → JobOf x k → (s : �
   where
     own : (k : ℕ) → JobOf (r .plan) k → (s : ℕ) → s < length (jobsRun h) → getD (jobsRun h) s 0 ≡ k → (jobNo (r .plan) k .release ≤ s) × (s < jobNo (r .plan) k .deadline)
     own k l s m e =
-        let number : k ≡ suc (k - 1) = (let a = l .0 in omega arith) in
-        reached-inside p (reached-a2 q) q (k - 1) (place-of (r .plan) k l) s m (e ∙ number)
+        let i = place-of (r .plan) k l in
+        reached-inside p (reached-a2 q) q (k - 1) (i .1) s m (e ∙ i .0)
 
 -- nor more slots than its hi
 pub never-above-hi : (p : Plan) (h : List Event) (r : Run) → Reached p h r → (k : ℕ) → JobOf p k → naming k (jobsRun h) ≤ jobNo p k .hi
@@ -145,5 +145,5 @@ hi-never-dropped p h r q = subst (λ (x : Plan). (k : ℕ) → JobOf x k → isH
   where
     own : (k : ℕ) → JobOf (r .plan) k → isHi (jobNo (r .plan) k) ≡ true → (border : ℕ) → entryNo r k .standing ≡ Dropped border → ⊥
     own k l high border e =
-        let t : EndTells h (jobNo (r .plan) k) (entryNo r k .given) (Dropped border) = subst (EndTells h (jobNo (r .plan) k) (entryNo r k .given)) e (reached-ends p (reached-a2 q) q (k - 1) (place-of (r .plan) k l)) in
+        let t : EndTells h (jobNo (r .plan) k) (entryNo r k .given) (Dropped border) = subst (EndTells h (jobNo (r .plan) k) (entryNo r k .given)) e (reached-ends p (reached-a2 q) q (k - 1) (place-of (r .plan) k l .1)) in
         never high (t .0)

@@ -19,9 +19,9 @@ use Rattle.ready.specs.declared.Slot.{Slot}
 use Rattle.entries.specs.Entry.{freshEntry}
 use Rattle.words.specs.ZipLaws.{zipped-at}
 use Rattle.ready.specs.Ready.{earliest, goesBefore, better, earliestFrom}
-use Rattle.promises.specs.Demands.{JobOf}
 use Rattle.promises.specs.Chosen.{Leads, EarliestOf}
 use Rattle.promises.specs.General.{zip-member}
+use Rattle.well_formed.specs.InOrder.{JobOf}
 
 -- ---- the order
 

@@ -13,14 +13,15 @@ use Rattle.plan.specs.Plan.{isHi, naming}
 use Rattle.entries.specs.declared.Entry.{Entry}
 use Rattle.executive.specs.declared.Phase.{Phase}
 use Rattle.executive.specs.declared.Phase.the-variants.{H}
+use Rattle.promises.specs.Told.{jobRun, firstEnd, leftAlone}
+use Rattle.promises.specs.Demands.{Event, event, jobsRun, phaseAt}
 use Rattle.entries.specs.Entry.{live, waiting, standingAfter, ranOn}
 use Rattle.entries.specs.declared.Standing.{Standing}
 use Rattle.entries.specs.declared.Standing.the-variants.{Waiting, Finished, Cut, Dropped}
 use Rattle.entries.specs.declared.Kind.{Kind}
 use Rattle.entries.specs.declared.Kind.the-variants.{End, More, None}
-use Rattle.promises.specs.Demands.{jobRun, Event, event, jobsRun, phaseAt, firstEnd}
 use Rattle.promises.specs.Ends.{EndTells, DropTells}
-use Rattle.promises.specs.Runs.{entryAfter, reportedEntry, leftAlone}
+use Rattle.promises.specs.Runs.{entryAfter, reportedEntry}
 use Rattle.promises.specs.NextLaws.{expired-given, expired-stands}
 
 -- ---- histories with one event more

@@ -10,10 +10,11 @@ use Rattle.plan.specs.declared.Plan.{Plan}
 use Rattle.plan.specs.Plan.{jobNo, isHi}
 use Rattle.executive.specs.declared.Phase.the-variants.{T}
 use Rattle.executive.specs.declared.Run.{Run}
+use Rattle.promises.specs.Demands.{Event, phaseAt, FinishedInTime, HadWholeBudget}
+use Rattle.well_formed.specs.InOrder.{JobOf}
 use Rattle.entries.specs.Entry.{waiting}
 use Rattle.entries.specs.declared.Standing.{Standing}
 use Rattle.entries.specs.declared.Standing.the-variants.{Waiting, Finished, Cut, Dropped}
-use Rattle.promises.specs.Demands.{JobOf, Event, phaseAt, FinishedInTime, HadWholeBudget}
 
 -- finished by the deadline; cut with hi slots; dropped: a LO job, its deadline has come, and the last slot before that was not run in phase T
 abbrev pub EndTells : List Event → Job → ℕ → Standing → Type 0

@@ -6,10 +6,7 @@ use mathlib.Core.Bool.{Bool, true, false, _&&_, false≢true}
 use mathlib.Core.List.{List, [], _∷_, zipWith}
 use lib.ListN.{length, getD}
 use Rattle.words.specs.Words.{every}
-use Rattle.answers.specs.declared.Answer.{Answer}
-use Rattle.answers.specs.declared.Answer.the-variants.{Accepted}
 use Rattle.words.specs.Cases.{both-hold}
-use Rattle.answers.specs.Answer.{accepted}
 
 -- ---- tests
 
@@ -43,10 +40,3 @@ module _ {A B : Type 0} (f : A → B → Bool) (a : A) (b : B) where
   zip-every (x ∷ xs) [] e = refl
   zip-every (x ∷ xs) (y ∷ ys) e =
       joined (f x y) (every (zipWith f xs ys)) (e 0 (suc-le-suc zero-le) (suc-le-suc zero-le)) (zip-every xs ys (λ i h l. e (suc i) (suc-le-suc h) (suc-le-suc l)))
-
--- ---- answers
-
--- the answer that accepts is accepted
-pub is-accepted : (a : Answer) → a ≡ Accepted → accepted a ≡ true
-unfolding accepted
-is-accepted a e = rw e

@@ -3,7 +3,7 @@ use Prim.Native.Nat.{ℕ, zero, suc, _+_, _-_, _≤_, _<_}
 use native.Mathlib.Nat.{not-suc-le-zero, le-of-suc-le-suc}
 use native.Mathlib.Decide.{ℕ-discrete}
 use native.Mathlib.Omega.{arith}
-use mathlib.Core.Path.{_≡_, refl, ap, _∙_}
+use mathlib.Core.Path.{_≡_, refl, sym, ap, _∙_}
 use mathlib.Core.Bool.{Bool, true, false, not, _&&_, false≢true}
 use mathlib.Core.List.{List, [], _∷_}
 use lib.ListN.{length, getD, set, length-set}
@@ -19,15 +19,16 @@ use Rattle.entries.specs.declared.Entry.{Entry}
 use Rattle.executive.specs.declared.Phase.{Phase}
 use Rattle.executive.specs.declared.Phase.the-variants.{T, H}
 use Rattle.executive.specs.declared.Run.{Run}
+use Rattle.executive.specs.Run.{entryNo, freshHi, freshLo, hiWork, loWork}
+use Rattle.executive.specs.Step.{entriesAfter, reported, expiredEntries, expired, overrun, canReturn, phaseAfter, judged, refreshed, nextRun}
+use Rattle.promises.specs.Told.{jobRun, firstEnd, leftAlone}
+use Rattle.promises.specs.Runs.{reportedEntry, entryAfter}
 use Rattle.ready.specs.declared.Slot.{Slot}
 use Rattle.entries.specs.declared.Kind.{Kind}
 use Rattle.entries.specs.declared.Kind.the-variants.{End, More, None}
 use Rattle.entries.specs.Entry.{live, waiting, freshEntry, standingHolds, standingAfter, ranOn, expiredEntry}
-use Rattle.executive.specs.Run.{entryNo, freshHi, freshLo, hiWork, loWork}
-use Rattle.executive.specs.Step.{entriesAfter, reported, expiredEntries, expired, overrun, canReturn, phaseAfter, judged, refreshed, nextRun}
-use Rattle.promises.specs.Demands.{JobOf, jobRun, firstEnd}
-use Rattle.promises.specs.Runs.{reportedEntry, entryAfter, leftAlone}
 use Rattle.promises.specs.General.{joined}
+use Rattle.well_formed.specs.InOrder.{JobOf}
 
 -- ---- the whole record
 
@@ -154,27 +155,22 @@ module _ (border : ℕ) (j : Job) where
   unfolding entryAfter
   given-after own kind e = expired-given (reportedEntry border j own kind e) ∙ reported-given own kind e
 
-  -- a live job that had the slot: as reported, or else left alone
-  ran-stands : (kind : Kind) (given : ℕ) → firstEnd (standingAfter kind (j .hi) given border Waiting) (leftAlone j border) ≡ standingAfter kind (j .hi) given border (leftAlone j border)
-  unfolding standingAfter
-  ran-stands End given = refl
-  ran-stands More given = go (given =? j .hi)
-    where
-      go : (b : Bool) → firstEnd (if b then Cut border else Waiting) (leftAlone j border) ≡ (if b then Cut border else leftAlone j border)
-      go true = refl
-      go false = refl
-  ran-stands None given = refl
+  -- an end that is none changes nothing
+  first-waiting : (s : Standing) → firstEnd s Waiting ≡ s
+  first-waiting Waiting = refl
+  first-waiting (Finished b) = refl
+  first-waiting (Cut b) = refl
+  first-waiting (Dropped b) = refl
 
-  -- an ended job stands as it stood; a live one as its report tells, or else as left alone
+  -- an ended job stands as it stood; a live one as the report of its own slot tells, or else as left alone
   pub stands-after : (own : Bool) (kind : Kind) (e : Entry) → (own ≡ true → live e ≡ true)
-      → entryAfter border j own kind e .standing ≡ firstEnd (e .standing) (if own then standingAfter kind (j .hi) (e .given + 1) border (leftAlone j border) else leftAlone j border)
+      → entryAfter border j own kind e .standing ≡ firstEnd (firstEnd (e .standing) (if own then standingAfter kind (j .hi) (e .given + 1) border Waiting else Waiting)) (leftAlone j border)
   unfolding entryAfter ranOn
-  stands-after false kind e alive = expired-stands (e .standing) (e .given)
-  stands-after true kind e alive = expired-stands (standingAfter kind (j .hi) (e .given + 1) border (e .standing)) (e .given + 1) ∙ go (e .standing) (alive refl)
+  stands-after false kind e alive = expired-stands (e .standing) (e .given) ∙ ap (λ (s : Standing). firstEnd s (leftAlone j border)) (sym (first-waiting (e .standing)))
+  stands-after true kind e alive = expired-stands (standingAfter kind (j .hi) (e .given + 1) border (e .standing)) (e .given + 1) ∙ ap (λ (s : Standing). firstEnd s (leftAlone j border)) (go (e .standing) (alive refl))
     where
-      go : (s : Standing) → waiting s ≡ true
-          → firstEnd (standingAfter kind (j .hi) (e .given + 1) border s) (leftAlone j border) ≡ firstEnd s (standingAfter kind (j .hi) (e .given + 1) border (leftAlone j border))
-      go Waiting h = ran-stands kind (e .given + 1)
+      go : (s : Standing) → waiting s ≡ true → standingAfter kind (j .hi) (e .given + 1) border s ≡ firstEnd s (standingAfter kind (j .hi) (e .given + 1) border Waiting)
+      go Waiting h = refl
       go (Finished b) h = absurd (false≢true h)
       go (Cut b) h = absurd (false≢true h)
       go (Dropped b) h = absurd (false≢true h)

@@ -14,17 +14,16 @@ use Rattle.plan.specs.declared.Plan.{Plan}
 use Rattle.plan.specs.Limits.{maxJobs}
 use Rattle.plan.specs.CountLaws.{counts-length, counts-at}
 use Rattle.plan.specs.Plan.{jobsOf, jobNo, isHi, blankJob, countsAt}
-use Rattle.acceptance_promise.specs.Promise.{jobAt, tab}
+use Rattle.well_formed.specs.InOrder.{jobAt, tab, JobOf}
 use Rattle.words.specs.Cases.{both-hold}
 use Rattle.acceptance_promise.specs.OneSlot.{OnTable}
 use Rattle.entries.specs.declared.Entry.{Entry}
 use Rattle.executive.specs.declared.Phase.the-variants.{T, H}
 use Rattle.executive.specs.declared.Run.{Run}
-use Rattle.ready.specs.declared.Slot.{Slot}
-use Rattle.entries.specs.Entry.{live, freshEntry, pastLo, settled}
 use Rattle.executive.specs.Run.{entryNo}
 use Rattle.executive.specs.Step.{overrun, everySettled, canReturn}
-use Rattle.promises.specs.Demands.{JobOf}
+use Rattle.ready.specs.declared.Slot.{Slot}
+use Rattle.entries.specs.Entry.{live, freshEntry, pastLo, settled}
 use Rattle.promises.specs.Runs.{entryAt, givenAt, liveAt}
 
 -- ---- places and numbers
@@ -34,10 +33,6 @@ number-place k = omega arith
 
 pub job-of-place : (p : Plan) (k : ℕ) → k < p .jobs → JobOf p (suc k)
 job-of-place p k l = (omega arith, l)
-
--- a job's place, from its number
-pub place-of : (p : Plan) (k : ℕ) → JobOf p k → k - 1 < p .jobs
-place-of p k l = let a = l .0 in let b = l .1 in omega arith
 
 -- ---- overruns and the return test
 

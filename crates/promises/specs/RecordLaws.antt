@@ -17,10 +17,13 @@ use Rattle.plan.specs.declared.Plan.{Plan}
 use Rattle.plan.specs.Limits.{maxJobs}
 use Rattle.plan.specs.Plan.{jobsOf, jobNo, blankJob}
 use Rattle.intervals.specs.Spares.{hiLeft, loLeft}
-use Rattle.acceptance.specs.Acceptance.{wellFormed, acceptance, check8, check9}
-use Rattle.acceptance_promise.specs.Promise.{InOrder}
+use Rattle.acceptance.specs.Acceptance.{acceptance, check9}
 use Rattle.answers.specs.RefusalLaws.{unless-holds, both-accept}
-use Rattle.acceptance_promise.specs.InOrderLaws.{in-order}
+use Rattle.acceptance_promise.specs.Laws.{passes-in-order}
+use Rattle.acceptance_promise.specs.AnswerLaws.{is-accepted}
+use Rattle.well_formed.specs.WellFormed.{wellFormed}
+use Rattle.window_sums.specs.WindowSums.{check8}
+use Rattle.well_formed.specs.InOrder.{InOrder, JobOf, Sized}
 use Rattle.executive.specs.declared.Run.{Run}
 use Rattle.ready.specs.declared.Slot.{Slot}
 use Rattle.executive.specs.declared.Report.{Report}
@@ -30,12 +33,12 @@ use Rattle.executive.specs.Coherent.{entriesHold, sameSpare, sameRow, coherent}
 use Rattle.executive.specs.Choice.{chosen, ready, choose, canGoOn}
 use Rattle.ready.specs.Ready.{howMany}
 use Rattle.executive.specs.Step.{nextRun, kindFits, reportAnswer, step}
+use Rattle.promises.specs.Told.{jobRun}
 use Rattle.entries.specs.declared.Kind.{Kind}
 use Rattle.entries.specs.declared.Kind.the-variants.{None}
-use Rattle.promises.specs.Demands.{JobOf, jobRun, Sized}
 use Rattle.promises.specs.Runs.{entryAfter, Taken, Recorded}
 use Rattle.promises.specs.Chosen.{Ready}
-use Rattle.promises.specs.General.{joined, is-accepted, zip-every}
+use Rattle.promises.specs.General.{joined, zip-every}
 use Rattle.promises.specs.ChosenLaws.{chosen-ready}
 use Rattle.promises.specs.NextLaws.{next-plan, next-t, next-length, next-hi, next-lo, entry-next, holds-after}
 
@@ -196,7 +199,7 @@ accepted-well-formed p h = both-accept (wellFormed p) (check8 p andThen check9 p
 
 module _ (p : Plan) (sz : Sized p) (well : accepted (wellFormed p) ≡ true) where
   ok : InOrder p
-  ok = in-order p (sz .0) (sz .1) well
+  ok = passes-in-order p sz well
 
   few : length (jobsOf p) ≤ maxJobs
   few =

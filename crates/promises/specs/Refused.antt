@@ -76,18 +76,18 @@ coherent-not-refused-10 r report whole = (
 
 -- ---- what a refused call hands back
 
--- a step is accepted, or hands back the same run
-pub taken-or-same : (r : Run) (report : Report) → (step r report .answer ≡ Accepted) ⊎ (step r report .run ≡ r)
+-- a step is accepted, or refused with the same run
+pub taken-or-same : (r : Run) (report : Report) → (step r report .answer ≡ Accepted) ⊎ ((accepted (step r report .answer) ≡ false) × (step r report .run ≡ r))
 unfolding step
 taken-or-same r report = go (accepted (reportAnswer r report)) refl
   where
-    go : (b : Bool) → accepted (reportAnswer r report) ≡ b → (step r report .answer ≡ Accepted) ⊎ (step r report .run ≡ r)
+    go : (b : Bool) → accepted (reportAnswer r report) ≡ b → (step r report .answer ≡ Accepted) ⊎ ((accepted (step r report .answer) ≡ false) × (step r report .run ≡ r))
     go true e = inl (rw e)
-    go false e = inr (rw e)
+    go false e = inr (rw e e, rw e)
 
 -- a refused step hands back the same run
 pub refused-step : (r : Run) (report : Report) → (step r report .answer ≡ Accepted → ⊥) → step r report .run ≡ r
-refused-step r report no-go = ⊎-elim (λ e. absurd (no-go e)) (λ same. same) (taken-or-same r report)
+refused-step r report no-go = ⊎-elim (λ e. absurd (no-go e)) (λ same. same .1) (taken-or-same r report)
 
 -- a refused start gives the blank run
 pub refused-start : (p : Plan) → (start p .answer ≡ Accepted → ⊥) → start p .run ≡ blankRun

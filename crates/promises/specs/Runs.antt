@@ -1,22 +1,21 @@
--- What the theorems say of runs: when a report is taken, any sequence of reports, and what every run that comes from a start keeps. Definitions only.
+-- What the theorems say of runs: when a report is taken, the slots of a history, and what every run that comes from a start keeps. Definitions only.
 -- In the invariant jobs are counted by their place, from 0, as in the acceptance promise.
 use Prim.Native.Nat.{ℕ, suc, _≤_, _<_}
 use mathlib.Core.Path.{_≡_}
-use mathlib.Core.Bool.{Bool, true, false, not, _&&_}
-use mathlib.Core.List.{List, [], _∷_}
+use mathlib.Core.Bool.{Bool, true, false}
+use mathlib.Core.List.{List, _∷_}
 use lib.ListN.{length, take, drop, getD}
-use Rattle.words.specs.Words.{if_then_else_, _≤?_}
+use Rattle.words.specs.Words.{if_then_else_}
 use Rattle.answers.specs.Answer.{accepted}
 use Rattle.windows.specs.Windows.{Feasible}
 use Rattle.plan.specs.declared.Job.{Job}
 use Rattle.plan.specs.declared.Plan.{Plan}
 use Rattle.plan.specs.Limits.{maxJobs}
 use Rattle.plan.specs.Plan.{jobNo, isHi}
-use Rattle.acceptance.specs.Acceptance.{wellFormed}
-use Rattle.acceptance_promise.specs.Promise.{jobAt, windowsOf, InOrder}
+use Rattle.well_formed.specs.WellFormed.{wellFormed}
+use Rattle.well_formed.specs.InOrder.{jobAt, InOrder, JobOf, Sized}
+use Rattle.spare_theory.specs.Promise.{windowsOf}
 use Rattle.acceptance_promise.specs.OneSlot.{hiRemaining, OnTable}
-use Rattle.entries.specs.declared.Standing.{Standing}
-use Rattle.entries.specs.declared.Standing.the-variants.{Waiting, Dropped}
 use Rattle.entries.specs.declared.Entry.{Entry}
 use Rattle.executive.specs.declared.Phase.the-variants.{T}
 use Rattle.executive.specs.declared.Run.{Run}
@@ -26,9 +25,8 @@ use Rattle.entries.specs.Entry.{live, freshEntry, standingHolds, ranOn, expired
 use Rattle.executive.specs.Run.{entryNo, freshHi, freshLo}
 use Rattle.executive.specs.Coherent.{coherent}
 use Rattle.executive.specs.Choice.{chosen}
-use Rattle.executive.specs.Step.{kindFits, step}
-use Rattle.executive.specs.declared.Stepped.{Stepped}
-use Rattle.promises.specs.Demands.{JobOf, Sized, Event, event, Reached}
+use Rattle.executive.specs.Step.{kindFits}
+use Rattle.promises.specs.Demands.{Event, event, Reached}
 
 -- ---- one step
 
@@ -49,21 +47,7 @@ reportedEntry border j own kind e = if own then ranOn kind border j e else e
 unfoldable pub entryAfter : ℕ → Job → Bool → Kind → Entry → Entry
 entryAfter border j own kind e = expiredEntry border j (reportedEntry border j own kind e)
 
--- how a live job stands after a slot that ends at `border` and was not its own
-abbrev pub leftAlone : Job → ℕ → Standing
-leftAlone j border = if not (isHi j) && (j .deadline ≤? border) then Dropped border else Waiting
-
--- ---- any sequence
-
--- the run after some reports, whatever was answered
-unfoldable pub fed : Run → List Report → Run
-fed r [] = r
-fed r (report ∷ reports) = fed (step r report .run) reports
-
--- the same by another step
-unfoldable pub fedBy : (Run → Report → Stepped) → Run → List Report → Run
-fedBy mine r [] = r
-fedBy mine r (report ∷ reports) = fedBy mine (mine r report .run) reports
+-- ---- slot by slot
 
 -- slot i of a history: before it there was a run, reached by the slots before, that took a report;
 -- the event is that run's phase, what the rules chose for it and what was reported

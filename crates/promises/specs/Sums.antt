@@ -4,17 +4,13 @@ use mathlib.Core.Path.{_≡_, refl}
 use mathlib.Core.List.{List, [], _∷_, map}
 use lib.IntN.{ℤ, pos, negsuc}
 use lib.ListN.{length, take}
-use Rattle.plan.specs.declared.Level.the-variants.{Lo, Hi}
-use Rattle.plan.specs.declared.Job.{Job}
 use Rattle.plan.specs.declared.Plan.{Plan}
 use Rattle.answers.specs.declared.Answer.the-variants.{Accepted, Overfull, Overdrawn}
-use Rattle.words.specs.Words.{filled}
-use Rattle.plan.specs.Limits.{maxJobs, maxSlots}
-use Rattle.plan.specs.Plan.{blankJob}
 use Rattle.intervals.specs.Intervals.{intervals}
 use Rattle.intervals.specs.Spares.{row}
 use Rattle.acceptance.specs.Acceptance.{acceptance}
 use Rattle.acceptance.specs.Analysis.{hiAtStart, loAtStart}
+use Rattle.acceptance_promise.specs.Plans.{A, B, C, one, borrowing}
 use Rattle.entries.specs.declared.Standing.the-variants.{Dropped}
 use Rattle.executive.specs.declared.Phase.the-variants.{T, H}
 use Rattle.ready.specs.declared.Slot.{Slot}
@@ -25,33 +21,6 @@ use Rattle.executive.specs.Run.{start, entryNo, currentHi, currentLo}
 use Rattle.executive.specs.Choice.{chosen}
 use Rattle.executive.specs.Step.{step}
 use Rattle.promises.specs.Compute.{everything}
-
--- ---- the plans, written as the document writes them
-
-abbrev pub HI : ℕ → ℕ → ℕ → ℕ → Job
-HI r d lo hi = record { level = Hi; release = r; deadline = d; lo = lo; hi = hi }
-
-abbrev pub LO : ℕ → ℕ → ℕ → ℕ → Job
-LO r d lo hi = record { level = Lo; release = r; deadline = d; lo = lo; hi = hi }
-
-abbrev pub plan : ℕ → List Job → List ℕ → Plan
-plan N js table = record { slots = N; jobs = length js; job = filled maxJobs blankJob js; table = filled maxSlots 0 table }
-
-abbrev pub A : Plan
-A = plan 8 (HI 0 8 2 4 ∷ LO 0 4 2 2 ∷ []) (2 ∷ 1 ∷ 2 ∷ 1 ∷ [])
-
-abbrev pub B : ℕ → Plan
-B h = plan 4 (LO 0 2 2 2 ∷ HI 0 4 1 h ∷ []) (1 ∷ 1 ∷ 2 ∷ [])
-
-abbrev pub C : Plan
-C = plan 8 (HI 0 6 1 5 ∷ LO 0 4 3 3 ∷ []) (1 ∷ 2 ∷ 2 ∷ 2 ∷ [])
-
--- one job HI, 2, 4, 1, h, table with slot 2 its own
-abbrev pub one : ℕ → Plan
-one h = plan 8 (HI 2 4 1 h ∷ []) (0 ∷ 0 ∷ 1 ∷ [])
-
-abbrev pub borrowing : Plan
-borrowing = plan 12 (HI 5 8 1 1 ∷ HI 0 12 10 10 ∷ []) []
 
 -- ---- what is read off
 

@@ -1,7 +1,7 @@
--- Demand 2, of texts: what is written reads back to an equal plan, what is read is the text of its plan, and equal texts are of equal plans.
+-- Demand 2, of texts: what is written reads back to an equal plan, and what is read is the text of its plan.
 use mathlib.Core.Path.{refl}
 use Rattle.plan_text.specs.RoundTrip.{written-reads, read-writes}
-use Rattle.promises.specs.Demands.{ReadsBack, OneText}
+use Rattle.promises.specs.Demands.{ReadsBack, WritesBack}
 
 -- what the writer writes reads back to an equal plan
 pub reads-back : ReadsBack
@@ -10,5 +10,5 @@ reads-back p room sz ok =
     rw (w .0) (refl, w .1)
 
 -- a text that is read is the text of its plan
-pub one-text : OneText
-one-text = read-writes
+pub writes-back : WritesBack
+writes-back = read-writes

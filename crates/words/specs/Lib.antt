@@ -8,3 +8,5 @@ pub mod BackLaws
 pub mod PassedLaws
 pub mod PartLaws
 pub mod ZipLaws
+pub mod StoredLaws
+pub mod MemberLaws

@@ -3,12 +3,12 @@ use mathlib.Core.Bool.{true}
 use mathlib.Core.Path.{_≡_, sym, ap, _∙_}
 use borrow.Author.Tests.{not-true, not-false, le-leb, lt-leb}
 use Rattle.answers.specs.Answer.{accepted}
-use Rattle.acceptance.specs.Acceptance.{wellFormed}
+use Rattle.well_formed.specs.WellFormed.{wellFormed}
+use Rattle.well_formed.specs.InOrderLaws.{in-order}
 use Rattle.words.specs.ListLaws.{long}
 use Rattle.executive.specs.declared.Run.{Run}
 use Rattle.executive.specs.Run.{freshHi, freshLo}
-use Rattle.executive.specs.Coherent.{entriesHold, sameRow, coherent}
-use Rattle.executive.specs.CoherentLaws.{few-jobs}
+use Rattle.executive.specs.Coherent.{entriesHold, sameRow, coherent, allHold}
 use Rattle.executive.specs.MemberLaws.{Full}
 use Rattle.executive.specs.WorkLaws.{fresh-hi, fresh-lo}
 use borrow.Author.Needs.{needs}
@@ -26,7 +26,7 @@ passes : (c : tie.Else1) → accepted (wellFormed (run c .plan)) ≡ true
 passes c = sym (c .before .is-accepted .ensures ∙ ap accepted (c .before .before .well-formed .ensures)) ∙ not-false _ (c .if1 .left)
 
 full : (c : tie.Else1) → Full (run c)
-full c = record { few = few-jobs _ (passes c); jobs = search (needs, long); entries = search (needs, long) }
+full c = record { few = in-order _ (search (needs, long)) (search needs) (passes c) .jobs .1; jobs = search (needs, long); entries = search (needs, long) }
 
 -- the entries' test is that of the run
 held : (c : tie.After-entries-hold) → c .entries-hold .result ≡ entriesHold (run (c .before .before .before .before .before .before .before))

@@ -1,0 +1,4 @@
+pub mod WellFormed
+pub mod InOrder
+pub mod Parts
+pub mod InOrderLaws

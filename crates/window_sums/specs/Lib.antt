@@ -1,0 +1,5 @@
+pub mod WindowSums
+pub mod Rising
+pub mod Overfull
+pub mod RisingLaws
+pub mod OverfullLaws
