@@ -11,7 +11,7 @@ use Rattle.plan.specs.declared.Plan.{Plan}
 use Rattle.plan.specs.Plan.{jobsOf, slotsOf, jobNo, isHi, naming, countsAt}
 use Rattle.plan.specs.Rules.{check2, check3, windowHolds, budgetHolds}
 use Rattle.intervals.specs.Intervals.{rising}
-use Rattle.intervals.specs.Spares.{hiLeft, row, current}
+use Rattle.spares.specs.Spares.{hiLeft, row, current}
 
 -- 4: a window breaks r < d <= N; the first such job
 unfoldable pub check4 : Plan → Answer

@@ -20,7 +20,7 @@ use Rattle.plan.specs.declared.Job.{Job}
 use Rattle.plan.specs.declared.Plan.{Plan}
 use Rattle.plan.specs.Plan.{jobsOf, blankJob, isHi}
 use Rattle.intervals.specs.Intervals.{rising}
-use Rattle.intervals.specs.Spares.{hiLeft}
+use Rattle.spares.specs.Spares.{hiLeft}
 use Rattle.acceptance.specs.Acceptance.{hiWithin, hiJobs, hiReleases, hiDeadlines, check8At, check8}
 use Rattle.acceptance_promise.specs.Promise.{jobAt, windowsOf, InOrder, hiOf, A1}
 use Rattle.answers.specs.RefusalLaws.{either-true, neither-true, unless-holds, unless-fails, some-refused}

@@ -18,7 +18,7 @@ use Rattle.plan.specs.declared.Plan.{Plan}
 use Rattle.plan.specs.Limits.{maxSlots, maxJobs}
 use Rattle.plan.specs.Plan.{jobsOf, slotsOf, blankJob, countsAt}
 use Rattle.plan.specs.CountLaws.{counts-at, counts-length}
-use Rattle.intervals.specs.Spares.{hiLeft, row, current}
+use Rattle.spares.specs.Spares.{hiLeft, row, current}
 use Rattle.acceptance.specs.Acceptance.{wellFormed, check8, alongTable, check9, acceptance}
 use Rattle.acceptance_promise.specs.Promise.{jobAt, windowsOf, tab, InOrder, hiOf, asked, A1, A2}
 use Rattle.words.specs.ZipLaws.{zip-at}

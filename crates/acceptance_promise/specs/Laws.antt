@@ -11,7 +11,7 @@ use Rattle.windows.specs.Windows.{dueBy, within, InTime}
 use Rattle.plan.specs.declared.Plan.{Plan}
 use Rattle.plan.specs.Limits.{maxSlots, maxJobs}
 use Rattle.intervals.specs.Intervals.{intervals}
-use Rattle.intervals.specs.Spares.{row, current}
+use Rattle.spares.specs.Spares.{row, current}
 use Rattle.acceptance.specs.Acceptance.{wellFormed, check8, check9, acceptance}
 use Rattle.acceptance_promise.specs.Promise.{jobAt, windowsOf, InOrder, hiOf, asked, A1, A2}
 use Rattle.acceptance_promise.specs.Chain.{Quiet, Chain}

@@ -10,7 +10,7 @@ use Rattle.plan.specs.declared.Job.{Job}
 use Rattle.plan.specs.declared.Plan.{Plan}
 use Rattle.plan.specs.Limits.{maxSlots, maxJobs}
 use Rattle.plan.specs.Plan.{blankJob, isHi, tableAt, tableSlots}
-use Rattle.intervals.specs.Spares.{hiLeft}
+use Rattle.spares.specs.Spares.{hiLeft}
 
 -- the job at place k
 abbrev pub jobAt : Plan → ℕ → Job

@@ -19,7 +19,7 @@ use Rattle.plan.specs.declared.Plan.{Plan}
 use Rattle.plan.specs.Plan.{jobsOf, blankJob}
 use Rattle.intervals.specs.declared.Interval.{Interval}
 use Rattle.intervals.specs.Intervals.{maxIntervals, intervals, past}
-use Rattle.intervals.specs.Spares.{remaining, atMost0, nextSpare, spare, spares, row, current}
+use Rattle.spares.specs.Spares.{remaining, atMost0, nextSpare, spare, spares, row, current}
 use Rattle.acceptance_promise.specs.Promise.{jobAt, windowsOf, InOrder}
 use Rattle.acceptance_promise.specs.InOrderLaws.{among-jobs, jobs-length}
 use Rattle.acceptance_promise.specs.Chain.{Quiet, Chain, done, link}

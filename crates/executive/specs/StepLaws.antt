@@ -57,14 +57,6 @@ settled-end js es cs n i le h =
     let l : length (take n js) ≤ i = rw (length-take-le n js le) h in
     rw (drop-of-length-le (take n js) l)
 
--- an array filled from the front by a list, one store a turn
-pub filled-next : (n z d i : ℕ) (xs : List ℕ) → i < length xs → length xs ≤ n → set (filled n z (take i xs)) i (getD xs i d) ≡ filled n z (take (i + 1) xs)
-filled-next n z d i xs h l =
-    let e : length (take i xs) ≡ i = length-take-le i xs (omega arith) in
-    let e′ : length (take (suc i) xs) ≡ suc i = length-take-le (suc i) xs (omega arith) in
-    let r : n - i ≡ suc (n - suc i) = omega arith in
-    rw (add-one i, e, e′, r, set-at (take i xs) z (replicate (n - suc i) z) (getD xs i d) i e, take-suc xs i d h, mathlib.Core.List.append-assoc)
-
 module _ (r : Run) (slot : Slot) (k i : ℕ) (p : slot ≡ Slot.Job k) (q : i ≡ k - 1) where
   -- a slot with a job, reported
   pub ran : (kind : Kind) (e : Entry) → e ≡ ranOn kind (r .t + 1) (getD (r .plan .job) i blankJob) (getD (r .entry) i freshEntry) → record { plan = r .plan; t = r .t + 1; phase = r .phase; hi = r .hi; lo = r .lo; entry = set (r .entry) i e } ≡ reported r slot kind

@@ -13,7 +13,7 @@ use Rattle.answers.specs.Answer.{accepted, _unless_, _andThen_, firstRefusal}
 use Rattle.windows.specs.Windows.{dueBy, within}
 use Rattle.plan.specs.declared.Plan.{Plan}
 use Rattle.plan.specs.Plan.{slotsOf}
-use Rattle.intervals.specs.Spares.{row, current}
+use Rattle.spares.specs.Spares.{row, current}
 use Rattle.acceptance.specs.Acceptance.{wellFormed, check8, alongTable, check9, acceptance}
 use Rattle.acceptance_promise.specs.Promise.{windowsOf, InOrder, hiOf, asked}
 use Rattle.answers.specs.RefusalLaws.{both-accept}

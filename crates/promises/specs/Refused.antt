@@ -22,13 +22,13 @@ use Rattle.ready.specs.declared.Slot.{Slot}
 use Rattle.executive.specs.declared.Report.{Report}
 use Rattle.executive.specs.Run.{start, blankRun}
 use Rattle.executive.specs.Coherent.{coherent}
-use Rattle.executive.specs.Choice.{chosen, choose, canGoOn}
+use Rattle.executive.specs.Choice.{chosen, choose, canGoOn, madeChoice}
 use Rattle.executive.specs.Step.{kindFits, step, reportAnswer}
 
 -- ---- the answers of calls on a run: 10, 11, 12, 13 in that order, at place 0, t, t, t
 
 pub choice-answers : (r : Run) → choose r .answer ≡ (if coherent r then if r .t <? r .plan .slots then Accepted else Over (r .t) else Incoherent)
-unfolding choose canGoOn accepted
+unfolding choose madeChoice canGoOn accepted
 choice-answers r = go (coherent r) refl (r .t <? r .plan .slots) refl
   where
     go : (a : Bool) → coherent r ≡ a → (b : Bool) → (r .t <? r .plan .slots) ≡ b → choose r .answer ≡ (if a then if b then Accepted else Over (r .t) else Incoherent)
@@ -100,7 +100,7 @@ refused-start p no-go = go (accepted (acceptance p)) refl
 
 -- a refused choice is idle with 0 ready
 pub refused-choice : (r : Run) → (choose r .answer ≡ Accepted → ⊥) → (choose r .slot ≡ Slot.Idle) × (choose r .ready ≡ 0)
-unfolding choose
+unfolding choose madeChoice
 refused-choice r no-go = go (accepted (canGoOn r)) refl
   where
     go : (b : Bool) → accepted (canGoOn r) ≡ b → (choose r .slot ≡ Slot.Idle) × (choose r .ready ≡ 0)

@@ -12,7 +12,7 @@ use Rattle.words.specs.Words.{filled}
 use Rattle.plan.specs.Limits.{maxJobs, maxSlots}
 use Rattle.plan.specs.Plan.{blankJob}
 use Rattle.intervals.specs.Intervals.{intervals}
-use Rattle.intervals.specs.Spares.{row}
+use Rattle.spares.specs.Spares.{row}
 use Rattle.acceptance.specs.Acceptance.{acceptance}
 use Rattle.acceptance.specs.Analysis.{hiAtStart, loAtStart}
 use Rattle.entries.specs.declared.Standing.the-variants.{Dropped}
