@@ -22,11 +22,13 @@ use Rattle.plan.specs.CountLaws.{counts-length, counts-le, counted-none, counte
 use Rattle.intervals.specs.declared.Interval.{Interval}
 use Rattle.intervals.specs.declared.Layout.{Layout}
 use Rattle.intervals.specs.Intervals.{maxIntervals, intervals}
-use Rattle.intervals.specs.Spares.{hiLeft, remaining, spares, row, current}
-use Rattle.intervals.specs.Layout.{layoutOf, rowIn}
-use Rattle.intervals.specs.LayoutLaws.{row-of-layout, past-of-layout}
-use Rattle.intervals.specs.Debt.{inDebt, takenFrom}
-use Rattle.intervals.specs.DebtLaws.{in-debt, none-taken, taken-by-home}
+use Rattle.spares.specs.Spares.{hiLeft, remaining, spares, row, current}
+use Rattle.intervals.specs.Layout.{layoutOf}
+use Rattle.spares.specs.InLayout.{rowIn}
+use Rattle.spares.specs.InLayoutLaws.{row-of-layout}
+use Rattle.intervals.specs.LayoutLaws.{past-of-layout}
+use Rattle.spares.specs.Debt.{inDebt, takenFrom}
+use Rattle.spares.specs.DebtLaws.{in-debt, none-taken, taken-by-home}
 use Rattle.acceptance.specs.Acceptance.{alongTable}
 use Rattle.acceptance.specs.Work.{leftAlong, workAlong, sumsAlong, slotWork, leftAtStart}
 

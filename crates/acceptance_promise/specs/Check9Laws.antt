@@ -16,7 +16,7 @@ use Rattle.plan.specs.declared.Plan.{Plan}
 use Rattle.plan.specs.Limits.{maxSlots, maxJobs}
 use Rattle.plan.specs.Plan.{jobsOf, slotsOf, blankJob, countsAt}
 use Rattle.plan.specs.CountLaws.{counts-at, counts-length}
-use Rattle.intervals.specs.Spares.{hiLeft, row, current}
+use Rattle.spares.specs.Spares.{hiLeft, row, current}
 use Rattle.well_formed.specs.WellFormed.{wellFormed}
 use Rattle.window_sums.specs.WindowSums.{check8}
 use Rattle.acceptance.specs.Acceptance.{alongTable, check9, acceptance}

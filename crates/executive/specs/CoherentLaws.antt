@@ -1,9 +1,9 @@
 -- What a coherent run before its last border has: its steps are sound, and the chosen job's slots can be counted on.
 use Prim.Native.Nat.{ℕ, zero, suc, _+_, _-_, _≤_, _<_, zero-le}
-use native.Mathlib.Nat.{not-suc-le-zero, le-of-suc-le-suc, add-zero}
+use native.Mathlib.Nat.{not-suc-le-zero, le-of-suc-le-suc}
 use native.Mathlib.Omega.{arith}
-use mathlib.Core.Bool.{Bool, true, false, not, _&&_, _||_, false≢true}
-use mathlib.Core.Path.{_≡_, refl, sym, subst, _∙_}
+use mathlib.Core.Bool.{Bool, true, false, not, _&&_, false≢true}
+use mathlib.Core.Path.{_≡_, refl, sym, _∙_}
 use mathlib.Core.List.{List, [], _∷_, zipWith}
 use lib.ListN.{length, getD}
 use borrow.Author.Tests.{leb-true, ltb-true}
@@ -11,14 +11,12 @@ use Rattle.words.specs.Words.{if_then_else_, _≤?_, below0, above0, every}
 use Rattle.words.specs.Cases.{both-hold}
 use Rattle.answers.specs.Answer.{accepted}
 use Rattle.plan.specs.declared.Job.{Job}
-use Rattle.plan.specs.declared.Plan.{Plan}
 use Rattle.plan.specs.Counts.{maxCount}
-use Rattle.plan.specs.Limits.{maxSlots, maxJobs, oneTo}
-use Rattle.plan.specs.Plan.{jobsOf, tableAt, blankJob, isHi, slotsOf, jobNo}
-use Rattle.well_formed.specs.WellFormed.{wellFormed, check4, check5, check6, check7, slotHolds}
+use Rattle.plan.specs.Limits.{maxSlots, maxJobs}
+use Rattle.plan.specs.Plan.{jobsOf, tableAt, blankJob, isHi}
+use Rattle.well_formed.specs.WellFormed.{wellFormed}
 use Rattle.well_formed.specs.InOrder.{InOrder}
 use Rattle.well_formed.specs.InOrderLaws.{in-order}
-use Rattle.plan.specs.Rules.{check2, check3, budgetHolds}
 use Rattle.entries.specs.declared.Standing.{Standing}
 use Rattle.entries.specs.declared.Stands.{Stands}
 use Rattle.entries.specs.declared.Stands.the-variants.{Live, Ended}
@@ -29,13 +27,13 @@ use Rattle.executive.specs.declared.Phase.{Phase}
 use Rattle.executive.specs.declared.Run.{Run}
 use Rattle.ready.specs.declared.Slot.{Slot}
 use Rattle.executive.specs.Run.{entryNo, freshHi, freshLo, currentHi, currentLo}
-use Rattle.executive.specs.Coherent.{entriesHold, sameRow, coherent}
-use Rattle.ready.specs.Ready.{isReady, better, earliestFrom, earliest, goesBefore, isMember}
+use Rattle.executive.specs.Coherent.{entriesHold, coherent}
+use Rattle.spares.specs.Spares.{sameRow}
+use Rattle.ready.specs.Ready.{isReady, earliest, isMember}
 use Rattle.executive.specs.Choice.{ready, readyHi, chosenT, chosenH, chosenIn, chosen, members}
 use Rattle.executive.specs.MemberLaws.{Full, members-all, members-hi, members-length, member-at}
 use Rattle.executive.specs.Sound.{Sound, Countable}
 use Rattle.words.specs.ZipLaws.{zipped-length, zipped-at}
-use Rattle.entries.specs.declared.Standing.the-variants.{Waiting, Finished, Cut, Dropped}
 
 -- a live job that holds has fewer slots than hi
 live-below : (t hi given : ℕ) (s : Standing) → standingHolds t hi given s ≡ true → waiting s ≡ true → given < hi
