@@ -1,4 +1,5 @@
 //! With the feature `product`: links target/staticlib/libembed.a of this repository, or of the folder EMBED_DIR.
+//! With `copies` the linker sends the calls of memcpy and memmove to src/copies.rs.
 
 fn main() {
     println!("cargo:rerun-if-env-changed=EMBED_DIR");
@@ -8,5 +9,8 @@ fn main() {
         println!("cargo:rustc-link-search=native={folder}");
         println!("cargo:rustc-link-lib=static=embed");
         println!("cargo:rerun-if-changed={folder}/libembed.a");
+    }
+    if std::env::var_os("CARGO_FEATURE_COPIES").is_some() {
+        println!("cargo:rustc-link-arg-bins=-Wl,--wrap=memcpy,--wrap=memmove");
     }
 }

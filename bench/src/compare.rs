@@ -102,7 +102,8 @@ impl Printed for Programs<'_> {
     }
 }
 
-/// Compares on `count` inputs. False, after printing the input, at the first difference.
+/// Compares on `count` inputs. False, after printing the input, at the first difference, and where a case came too
+/// rarely.
 pub fn compare(side: &mut impl Printed, seed: u64, count: usize) -> bool {
     let mut rng = Rng::new(seed);
     let mut mix = Mix::default();
@@ -118,14 +119,14 @@ pub fn compare(side: &mut impl Printed, seed: u64, count: usize) -> bool {
             println!("input {index}: {call} differs\n{}", shown(&input.check));
             return false;
         }
-        mix.count_check(&check);
-        mix.count_run(&run);
+        mix.count(&check, &run);
     }
-    println!("{mix}\n{count} compared, 0 differ");
-    true
+    println!("{mix}{count} compared, 0 differ");
+    mix.is_enough()
 }
 
-fn same(index: usize, program: &str, input: &[u8], model: &[u8], other: &[u8]) -> bool {
+/// Whether two outputs are the same; prints the input and both where they differ.
+pub fn same(index: usize, program: &str, input: &[u8], model: &[u8], other: &[u8]) -> bool {
     if model != other {
         println!("input {index}: the {program} outputs differ\n-- input\n{}", shown(input));
         println!("-- model\n{}\n-- other\n{}", shown(model), shown(other));

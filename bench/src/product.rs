@@ -5,10 +5,10 @@ use crate::runtime::Runtime;
 extern "C" {
     fn embed_check(text: *const u8, length: usize, out: *mut u8, room: usize) -> usize;
     fn embed_run(text: *const u8, length: usize, out: *mut u8, room: usize) -> usize;
-    fn embed_read(text: *const u8, length: usize) -> u16;
+    fn embed_read(text: *const u8, length: usize, places: *mut [usize; 2]) -> u16;
     fn embed_write(text: *const u8, length: usize, out: *mut u8, room: usize) -> usize;
-    fn embed_analyse(text: *const u8, length: usize) -> u16;
-    fn embed_walk(text: *const u8, length: usize, kinds: *const u8, count: usize) -> u16;
+    fn embed_analyse(text: *const u8, length: usize, places: *mut [usize; 2]) -> u16;
+    fn embed_walk(text: *const u8, length: usize, kinds: *const u8, count: usize, places: *mut [usize; 2]) -> u16;
 }
 
 /// The proved runtime.
@@ -25,7 +25,7 @@ impl Runtime for Product {
     }
 
     fn read(&self, text: &[u8]) -> u16 {
-        unsafe { embed_read(text.as_ptr(), text.len()) }
+        unsafe { embed_read(text.as_ptr(), text.len(), &mut [0; 2]) }
     }
 
     fn write(&self, text: &[u8], out: &mut [u8]) -> usize {
@@ -33,10 +33,10 @@ impl Runtime for Product {
     }
 
     fn analyse(&self, text: &[u8]) -> u16 {
-        unsafe { embed_analyse(text.as_ptr(), text.len()) }
+        unsafe { embed_analyse(text.as_ptr(), text.len(), &mut [0; 2]) }
     }
 
     fn walk(&self, text: &[u8], kinds: &[u8]) -> u16 {
-        unsafe { embed_walk(text.as_ptr(), text.len(), kinds.as_ptr(), kinds.len()) }
+        unsafe { embed_walk(text.as_ptr(), text.len(), kinds.as_ptr(), kinds.len(), &mut [0; 2]) }
     }
 }

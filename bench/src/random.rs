@@ -13,8 +13,7 @@ pub use plans::largest;
 pub use records::{plan_record, run_record};
 pub use reports::{line as report_line, whole_run};
 
-use crate::model::write_plan;
-use crate::model::Plan;
+use crate::model::{write_plan, Plan, Rules};
 
 /// A small generator (SplitMix64): the same seed gives the same inputs on every machine.
 pub struct Rng(u64);
@@ -59,8 +58,13 @@ pub struct Input {
     pub run: Vec<u8>,
 }
 
-/// The next input.
+/// The next input, by the rules that the product has.
 pub fn input(rng: &mut Rng) -> Input {
+    input_by(Rules::LANDED, rng)
+}
+
+/// The next input, its reports steered by these rules.
+pub fn input_by(rules: Rules, rng: &mut Rng) -> Input {
     let mut plan = plans::plan(rng);
     if rng.chance(30) {
         plans::spoil(rng, &mut plan);
@@ -70,7 +74,7 @@ pub fn input(rng: &mut Rng) -> Input {
         texts::spoil_limits(rng, &mut check);
     }
     let mut run = check.clone();
-    run.extend(reports::reports(rng, &plan));
+    run.extend(reports::reports(rules, rng, &plan));
     if rng.chance(3) {
         check.clone_from(&run);
     }

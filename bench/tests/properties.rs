@@ -109,7 +109,7 @@ fn small_plan(rng: &mut Rng) -> Plan {
 #[test]
 fn hopeless_plans_by_the_words_of_8_and_9() {
     let mut rng = Rng::new(8);
-    let mut seen = [0; 15];
+    let mut seen = [0; 32];
     for _ in 0..TIMES {
         let plan = small_plan(&mut rng);
         let answer = analyse(&plan).err();
@@ -140,11 +140,9 @@ fn coherence_clause_by_clause() {
     let mut coherent = 0;
     for _ in 0..TIMES {
         let (run, _) = run_record(&mut rng);
-        let holds = |j: usize| match (run.entry[j].standing, run.entry[j].given, run.plan.job[j].hi) {
-            (Standing::Waiting, given, hi) => given < hi,
-            (Standing::Finished(end) | Standing::Cut(end) | Standing::Dropped(end), given, hi) => {
-                given <= hi && end <= run.t
-            }
+        let holds = |j: usize| match (run.entry[j].standing.end(), run.entry[j].given, run.plan.job[j].hi) {
+            (None, given, hi) => given < hi,
+            (Some(end), given, hi) => given <= hi && end <= run.t,
         };
         let expected = well_formed(&run.plan).is_ok()
             && run.t <= run.plan.slots

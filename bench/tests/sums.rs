@@ -113,7 +113,7 @@ fn plan_c_idles_then_drops() {
     assert_eq!(output, expected);
     let run = run_after(&plan_c(), &[Kind::More, Kind::More, Kind::End, Kind::None]);
     assert_eq!((run.t, run.phase), (4, Phase::T));
-    assert_eq!(run.entry[1], Entry { standing: Standing::Dropped(4), given: 1 });
+    assert_eq!(run.entry[1], Entry { standing: Standing::Dropped(4), given: 1, ..Entry::BLANK });
 }
 
 #[test]

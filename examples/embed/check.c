@@ -1,4 +1,5 @@
-/* A host program: checks the plan in the file that is named, or plan A, and prints the answer as the check program does. */
+/* A host program: checks the plan in the file that is named, or plan A, and prints what the check program prints. A refusal
+ * it prints from the number and the places that it is told. */
 #include <stdio.h>
 
 #include "coater.h"
@@ -30,7 +31,14 @@ int main(int argc, char **argv) {
         plan = text;
         length = read_file(argv[1]);
     }
-    size_t printed = embed_check(plan, length, out, sizeof out);
-    fwrite(out, 1, printed, stdout);
-    return embed_analyse(plan, length) == 0 ? 0 : 1;
+    size_t places[2];
+    unsigned refusal = embed_analyse(plan, length, places);
+    if (refusal == 8) {
+        printf("refused=8,%zu,%zu\n", places[0], places[1]);
+    } else if (refusal != 0) {
+        printf("refused=%u,%zu\n", refusal, places[0]);
+    } else {
+        fwrite(out, 1, embed_check(plan, length, out, sizeof out), stdout);
+    }
+    return refusal == 0 ? 0 : 1;
 }

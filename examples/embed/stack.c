@@ -11,11 +11,12 @@ enum { STACK = 1 << 20, FILL = 0xa5 };
 static uint8_t text[65536];
 static uint8_t out[65536];
 static size_t length;
+static size_t places[2];
 
 static void *nothing(void *unused) { return unused; }
 
 static void *reading(void *unused) {
-    embed_read(text, length);
+    embed_read(text, length, places);
     return unused;
 }
 
@@ -25,13 +26,13 @@ static void *writing(void *unused) {
 }
 
 static void *analysing(void *unused) {
-    embed_analyse(text, length);
+    embed_analyse(text, length, places);
     return unused;
 }
 
 static void *walking(void *unused) {
     const uint8_t kinds[] = {COATER_MORE, COATER_MORE};
-    embed_walk(text, length, kinds, sizeof kinds);
+    embed_walk(text, length, kinds, sizeof kinds, places);
     return unused;
 }
 

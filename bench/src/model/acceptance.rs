@@ -1,7 +1,11 @@
 //! The checks 2 to 9 in their order, and the analysis: intervals and both spare rows at border 0.
 
-use super::intervals::{Interval, Layout, Row, INTERVALS};
+use super::intervals::{Ends, Interval, Layout, Row, INTERVALS};
 use super::plan::{Job, Plan, Refusal, JOBS, SLOTS};
+use super::rules::Rules;
+
+/// The most runs of adjoining table slots that a job has (17).
+const RUNS: u16 = 4;
 
 /// What an accepted plan's analysis shows.
 #[derive(Clone, Debug)]
@@ -9,6 +13,8 @@ pub struct Analysis {
     pub layout: Layout,
     pub hi: Row,
     pub lo: Row,
+    pub hi_end: Ends,
+    pub lo_end: Ends,
 }
 
 impl Analysis {
@@ -17,19 +23,25 @@ impl Analysis {
     }
 }
 
-/// All checks, then the spares at border 0, where nothing is given yet.
+/// The analysis by the rules that the product has.
 pub fn analyse(plan: &Plan) -> Result<Analysis, Refusal> {
-    well_formed(plan)?;
+    analyse_by(Rules::LANDED, plan)
+}
+
+/// All checks, then the spares at border 0, where nothing is given yet.
+pub fn analyse_by(rules: Rules, plan: &Plan) -> Result<Analysis, Refusal> {
+    well_formed_by(rules, plan)?;
     windows_hold_the_work(plan)?;
     let layout = Layout::of(plan);
-    table_keeps_the_spare(plan, &layout)?;
+    table_keeps_the_spare(rules, plan, &layout)?;
     let (mut hi, mut lo) = ([0; INTERVALS], [0; INTERVALS]);
     for (k, job) in plan.planned().iter().enumerate() {
         hi[layout.home(k)] += hi_budget(job);
         lo[layout.home(k)] += i32::from(job.lo);
     }
+    let (hi_end, lo_end) = (layout.ends(rules, 0, &hi), layout.ends(rules, 0, &lo));
     let (hi, lo) = (layout.spares(0, &hi), layout.spares(0, &lo));
-    Ok(Analysis { layout, hi, lo })
+    Ok(Analysis { layout, hi, lo, hi_end, lo_end })
 }
 
 /// What a job asks of the HI spares before it runs.
@@ -41,8 +53,24 @@ fn hi_budget(job: &Job) -> i32 {
     }
 }
 
-/// Checks 2 to 7.
+/// Checks 2 to 7, and 17 where it has landed.
 pub fn well_formed(plan: &Plan) -> Result<(), Refusal> {
+    well_formed_by(Rules::LANDED, plan)
+}
+
+/// Checks 2 to 7, and 17 where the rules have it.
+pub fn well_formed_by(rules: Rules, plan: &Plan) -> Result<(), Refusal> {
+    well_formed_but(rules, plan, |_| true, |_| true)
+}
+
+/// The same, where 7 is asked only of the jobs, from 0, that are `owed` their table slots, and 17 only of `planned`
+/// ones.
+pub fn well_formed_but(
+    rules: Rules,
+    plan: &Plan,
+    owed: impl Fn(usize) -> bool,
+    planned: impl Fn(usize) -> bool,
+) -> Result<(), Refusal> {
     if !(1..=SLOTS).contains(&usize::from(plan.slots)) {
         return Err(Refusal::SlotLimit);
     }
@@ -67,10 +95,27 @@ pub fn well_formed(plan: &Plan) -> Result<(), Refusal> {
             _ => return Err(Refusal::Table { slot }),
         }
     }
-    match jobs.iter().zip(counts).position(|(job, count)| job.lo != count) {
-        Some(k) => Err(Refusal::Count { job: k + 1 }),
+    if let Some(k) = (0..jobs.len()).position(|k| owed(k) && jobs[k].lo != counts[k]) {
+        return Err(Refusal::Count { job: k + 1 });
+    }
+    let runs = runs(plan);
+    match (0..jobs.len()).position(|k| rules.chopped && planned(k) && runs[k] > RUNS) {
+        Some(k) => Err(Refusal::Chopped { job: k + 1 }),
         None => Ok(()),
     }
+}
+
+/// How many longest rows of adjoining table slots each job has.
+fn runs(plan: &Plan) -> [u16; JOBS] {
+    let mut runs = [0; JOBS];
+    let mut before = 0;
+    for &number in plan.row() {
+        if number != 0 && number != before {
+            runs[usize::from(number) - 1] += 1;
+        }
+        before = number;
+    }
+    runs
 }
 
 fn window_holds(job: &Job, slots: u16) -> bool {
@@ -106,15 +151,17 @@ fn windows_hold_the_work(plan: &Plan) -> Result<(), Refusal> {
 }
 
 /// Check 9: along the table, each job ending on its lo-th slot, the current HI spare stays at 0 or above.
-fn table_keeps_the_spare(plan: &Plan, layout: &Layout) -> Result<(), Refusal> {
+fn table_keeps_the_spare(rules: Rules, plan: &Plan, layout: &Layout) -> Result<(), Refusal> {
     let mut needed = [0; INTERVALS];
     for (k, job) in plan.planned().iter().enumerate() {
         needed[layout.home(k)] += hi_budget(job);
     }
     let mut given = [0; JOBS];
     for (border, &number) in plan.row().iter().enumerate() {
-        if layout.current_spare(border as u16, &needed) < 0 {
-            return Err(Refusal::Spare { border });
+        let t = border as u16;
+        if layout.current_spare(t, &needed) < 0 {
+            let end = layout.ends(rules, t, &needed)[layout.past(t)];
+            return Err(if rules.ends { Refusal::SpareBy { border, end } } else { Refusal::Spare { border } });
         }
         if number == 0 {
             continue;

@@ -1,12 +1,16 @@
 //! The intervals of a plan and the spares at a border, worked out afresh.
 
 use super::plan::{Plan, JOBS};
+use super::rules::Rules;
 
 /// The most intervals a plan has: one for each job's deadline, one gap before each, one after the last.
 pub const INTERVALS: usize = 2 * JOBS + 1;
 
 /// One spare, or one sum of work, for each interval.
 pub type Row = [i32; INTERVALS];
+
+/// Beside each spare the end that makes it.
+pub type Ends = [u16; INTERVALS];
 
 #[derive(Clone, Copy, Debug, Default, PartialEq, Eq)]
 pub struct Interval {
@@ -76,24 +80,36 @@ impl Layout {
     /// beyond the last have 0.
     pub fn spares(&self, t: u16, needed: &Row) -> Row {
         let mut row = [0; INTERVALS];
-        self.walk(t, needed, |k, spare| row[k] = spare);
+        self.walk(t, needed, |k, spare, _| row[k] = spare);
         row
+    }
+
+    /// K4: beside each of these spares the least end at which the time to it, less the work due by it, equals the
+    /// spare. All 0 where the rules have none.
+    pub fn ends(&self, rules: Rules, t: u16, needed: &Row) -> Ends {
+        let mut ends = [0; INTERVALS];
+        if rules.ends {
+            self.walk(t, needed, |k, _, end| ends[k] = end);
+        }
+        ends
     }
 
     /// The current interval's spare alone.
     pub fn current_spare(&self, t: u16, needed: &Row) -> i32 {
-        self.walk(t, needed, |_, _| ())
+        self.walk(t, needed, |_, _, _| ())
     }
 
-    /// Hands each interval's spare from the last back to the current one to `take`; answers the last handed.
-    fn walk(&self, t: u16, needed: &Row, mut take: impl FnMut(usize, i32)) -> i32 {
-        let mut next = 0;
+    /// Hands each interval's spare and the end that makes it, from the last back to the current one, to `take`; answers
+    /// the last spare. A next spare below 0 is what makes this one, so its end is this one's too.
+    fn walk(&self, t: u16, needed: &Row, mut take: impl FnMut(usize, i32, u16)) -> i32 {
+        let (mut next, mut end) = (0, 0);
         for (k, interval) in self.intervals().iter().enumerate().rev() {
             if interval.end <= t {
                 break;
             }
+            end = if next < 0 { end } else { interval.end };
             next = i32::from(interval.end - interval.start.max(t)) - needed[k] + next.min(0);
-            take(k, next);
+            take(k, next, end);
         }
         next
     }

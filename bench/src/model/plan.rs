@@ -64,7 +64,7 @@ impl PartialEq for Plan {
     }
 }
 
-/// The refusals, each with its place or places.
+/// The refusals, each with its place or places. `SpareBy` is `Spare` with the HI deadline that makes it (K4).
 #[derive(Clone, Copy, Debug, PartialEq, Eq)]
 pub enum Refusal {
     Form { line: usize },
@@ -76,15 +76,23 @@ pub enum Refusal {
     Count { job: usize },
     Overload { from: u16, to: u16 },
     Spare { border: usize },
+    SpareBy { border: usize, end: u16 },
     Incoherent,
     Over { t: u16 },
     WrongSlot { t: u16 },
     WrongKind { t: u16 },
     Room { needed: usize },
+    Task { task: usize },
+    TooMany { jobs: usize },
+    Chopped { job: usize },
+    Loss { t: u16 },
+    Request { t: u16 },
+    NoNumber { t: u16 },
+    TooFew { open: usize },
 }
 
 impl Refusal {
-    /// The number in document 01's table.
+    /// The number in document 01's table, or in document 02.
     pub fn number(self) -> u16 {
         match self {
             Refusal::Form { .. } => 1,
@@ -95,28 +103,41 @@ impl Refusal {
             Refusal::Table { .. } => 6,
             Refusal::Count { .. } => 7,
             Refusal::Overload { .. } => 8,
-            Refusal::Spare { .. } => 9,
+            Refusal::Spare { .. } | Refusal::SpareBy { .. } => 9,
             Refusal::Incoherent => 10,
             Refusal::Over { .. } => 11,
             Refusal::WrongSlot { .. } => 12,
             Refusal::WrongKind { .. } => 13,
             Refusal::Room { .. } => 14,
+            Refusal::Task { .. } => 15,
+            Refusal::TooMany { .. } => 16,
+            Refusal::Chopped { .. } => 17,
+            Refusal::Loss { .. } => 18,
+            Refusal::Request { .. } => 19,
+            Refusal::NoNumber { .. } => 20,
+            Refusal::TooFew { .. } => 21,
         }
     }
 
-    /// The place; 8 has a second one.
+    /// The place; 8 has a second one, 9 too once it names its deadline.
     pub fn places(self) -> (usize, Option<usize>) {
         match self {
             Refusal::Form { line } => (line, None),
             Refusal::SlotLimit => (1, None),
             Refusal::JobLimit => (2, None),
-            Refusal::Window { job } | Refusal::Budget { job } | Refusal::Count { job } => (job, None),
+            Refusal::Window { job } | Refusal::Budget { job } => (job, None),
+            Refusal::Count { job } | Refusal::Chopped { job } => (job, None),
             Refusal::Table { slot } => (slot, None),
             Refusal::Overload { from, to } => (usize::from(from), Some(usize::from(to))),
             Refusal::Spare { border } => (border, None),
+            Refusal::SpareBy { border, end } => (border, Some(usize::from(end))),
             Refusal::Incoherent => (0, None),
             Refusal::Over { t } | Refusal::WrongSlot { t } | Refusal::WrongKind { t } => (usize::from(t), None),
             Refusal::Room { needed } => (needed, None),
+            Refusal::Loss { t } | Refusal::Request { t } | Refusal::NoNumber { t } => (usize::from(t), None),
+            Refusal::TooFew { open } => (open, None),
+            Refusal::Task { task } => (task, None),
+            Refusal::TooMany { jobs } => (jobs, None),
         }
     }
 }

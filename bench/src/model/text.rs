@@ -21,6 +21,11 @@ impl<'a> Lines<'a> {
         self.at == self.text.len()
     }
 
+    /// Whether the next line begins with `key`.
+    pub fn next_is(&self, key: &[u8]) -> bool {
+        self.text[self.at..].starts_with(key)
+    }
+
     /// The refusal of the line that stands next.
     pub fn bad(&self) -> Refusal {
         Refusal::Form { line: self.line }
@@ -48,7 +53,7 @@ pub fn number(value: &[u8]) -> Option<u16> {
     }
 }
 
-fn level(value: &[u8]) -> Option<Level> {
+pub fn level(value: &[u8]) -> Option<Level> {
     match value {
         b"HI" => Some(Level::Hi),
         b"LO" => Some(Level::Lo),
@@ -94,17 +99,26 @@ pub fn read_prefix(lines: &mut Lines) -> Result<Plan, Refusal> {
 }
 
 /// One line to write: a whole one, or a key and its number.
-enum Line {
+pub enum Line {
     Whole(&'static [u8]),
     Number(&'static [u8], u16),
 }
 
-/// Hands the plan's lines in order to `take`, up to the first that it refuses.
-fn each_line(plan: &Plan, mut take: impl FnMut(Line) -> Result<(), Refusal>) -> Result<(), Refusal> {
+impl Line {
+    pub fn level(level: Level) -> Line {
+        Line::Whole(if level == Level::Hi { b"level=HI\n" } else { b"level=LO\n" })
+    }
+}
+
+/// Takes a text's lines one after the other, up to the first that it refuses.
+pub type Take<'a> = dyn FnMut(Line) -> Result<(), Refusal> + 'a;
+
+/// Hands the plan's lines in order to `take`.
+fn each_line(plan: &Plan, take: &mut Take) -> Result<(), Refusal> {
     take(Line::Number(b"slots=", plan.slots))?;
     take(Line::Number(b"jobs=", plan.jobs))?;
     for job in plan.planned() {
-        take(Line::Whole(if job.is_hi() { b"level=HI\n" } else { b"level=LO\n" }))?;
+        take(Line::level(job.level))?;
         take(Line::Number(b"release=", job.release))?;
         take(Line::Number(b"deadline=", job.deadline))?;
         take(Line::Number(b"lo=", job.lo))?;
@@ -121,12 +135,17 @@ pub fn write_plan(plan: &Plan, out: &mut [u8]) -> Result<usize, Refusal> {
     if !(1..=JOBS).contains(&usize::from(plan.jobs)) {
         return Err(Refusal::JobLimit);
     }
-    let needed = text_length(plan)?;
+    write_lines(|take| each_line(plan, take), out)
+}
+
+/// Writes the lines that `each` hands over at the start of `out`. A refusal writes nothing.
+pub fn write_lines(each: impl Fn(&mut Take) -> Result<(), Refusal>, out: &mut [u8]) -> Result<usize, Refusal> {
+    let needed = text_length(&each)?;
     if out.len() < needed {
         return Err(Refusal::Room { needed });
     }
     let mut at = 0;
-    each_line(plan, |line| {
+    each(&mut |line| {
         match line {
             Line::Whole(bytes) => put(out, &mut at, bytes),
             Line::Number(key, number) => {
@@ -140,11 +159,11 @@ pub fn write_plan(plan: &Plan, out: &mut [u8]) -> Result<usize, Refusal> {
     Ok(at)
 }
 
-/// The length of the plan's text, or the line of the first number that no text can hold.
-fn text_length(plan: &Plan) -> Result<usize, Refusal> {
+/// The length of a text, or the line of the first number that no text can hold.
+fn text_length(each: impl Fn(&mut Take) -> Result<(), Refusal>) -> Result<usize, Refusal> {
     let mut length = 0;
     let mut line_number = 0;
-    each_line(plan, |line| {
+    each(&mut |line| {
         line_number += 1;
         length += match line {
             Line::Whole(bytes) => bytes.len(),

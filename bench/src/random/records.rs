@@ -88,6 +88,12 @@ fn change_run(rng: &mut Rng, run: &mut Run) {
 }
 
 fn standing(rng: &mut Rng, t: u16) -> Standing {
-    let border = if rng.chance(70) { rng.range(0, t) } else { t + 1 };
-    rng.pick(&[Standing::Waiting, Standing::Finished(border), Standing::Cut(border), Standing::Dropped(border)])
+    let border = if rng.chance(70) { rng.range(0, t) } else { t.saturating_add(1) };
+    rng.pick(&[
+        Standing::Waiting,
+        Standing::Finished(border),
+        Standing::Cut(border),
+        Standing::Dropped(border),
+        Standing::Missed(border),
+    ])
 }

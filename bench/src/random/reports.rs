@@ -1,7 +1,8 @@
-//! Report lines: most follow the run as the model has it, some leave it at a border, some never fit.
+//! Report lines: most follow the run as the model has it, some leave it at a border, some never fit. Lost slots and
+//! firm requests stand among them where the rules have such lines.
 
 use super::Rng;
-use crate::model::{Kind, Plan, Report, Run, Slot};
+use crate::model::{Kind, Plan, Report, Rules, Run, Slot};
 
 /// A report's line.
 pub fn line(slot: u16, kind: Kind) -> String {
@@ -27,8 +28,8 @@ enum Manner {
 }
 
 /// The report lines for a plan; for a refused one, lines that might have been.
-pub fn reports(rng: &mut Rng, plan: &Plan) -> Vec<u8> {
-    let Ok(run) = Run::start(plan) else {
+pub fn reports(rules: Rules, rng: &mut Rng, plan: &Plan) -> Vec<u8> {
+    let Ok(run) = Run::start_by(rules, plan) else {
         return (0..rng.range(0, 3)).map(|slot| line(slot, any_kind(rng))).collect::<String>().into_bytes();
     };
     let manner = rng.pick(&[
@@ -41,10 +42,11 @@ pub fn reports(rng: &mut Rng, plan: &Plan) -> Vec<u8> {
     ]);
     let leaves = rng.chance(35);
     let last = if rng.chance(if leaves { 20 } else { 80 }) { plan.slots } else { rng.range(0, plan.slots) };
-    let (kinds, run) = follow(rng, run, manner, last);
-    let mut text: String = (0..).zip(kinds).map(|(slot, kind)| line(slot, kind)).collect();
+    let calling = rules.calls && rng.chance(60);
+    let (mut text, run) = if calling { follow_calling(rng, run, manner, last) } else { lines(rng, run, manner, last) };
     if leaves {
-        text.push_str(&leave(rng, &run));
+        let bad_call = rules.calls && rng.chance(40);
+        text.push_str(&if bad_call { bad_call_line(rng, &run) } else { leave(rng, &run) });
         for slot in 0..rng.range(0, 2) {
             text.push_str(&line(run.t + slot, any_kind(rng)));
         }
@@ -56,6 +58,52 @@ pub fn reports(rng: &mut Rng, plan: &Plan) -> Vec<u8> {
 pub fn whole_run(rng: &mut Rng, plan: &Plan) -> Vec<Kind> {
     let run = Run::start(plan).expect("an accepted plan");
     follow(rng, run, Manner::Overrunning, plan.slots).0
+}
+
+/// The report lines of a run up to border `last`, and the run there.
+fn lines(rng: &mut Rng, run: Run, manner: Manner, last: u16) -> (String, Run) {
+    let (kinds, run) = follow(rng, run, manner, last);
+    ((0..).zip(kinds).map(|(slot, kind)| line(slot, kind)).collect(), run)
+}
+
+/// The same with lost slots and firm requests among the reports.
+fn follow_calling(rng: &mut Rng, mut run: Run, manner: Manner, last: u16) -> (String, Run) {
+    let mut text = String::new();
+    let often = rng.pick(&[2, 10, 30]);
+    while run.t < last {
+        let t = run.t;
+        if !rng.chance(often) {
+            let kind = right_kind(rng, &run, manner);
+            run.step(Report { slot: t, kind }).expect("a kind that fits the choice");
+            text.push_str(&line(t, kind));
+        } else if rng.chance(25) {
+            let count = rng.range(1, 3).min(last - t);
+            run.lose(count).expect("slots that are still to come");
+            text.push_str(&format!("lost={t},{count}\n"));
+        } else {
+            let (count, deadline) = (rng.range(1, 3), rng.range(t + 1, run.plan.slots));
+            if run.ask(count, deadline).is_ok() {
+                text.push_str(&format!("ask={t},{count},{deadline}\n"));
+            }
+        }
+    }
+    (text, run)
+}
+
+/// A lost call or a request that is refused, or may be: by the form, by its numbers or by its slot.
+fn bad_call_line(rng: &mut Rng, run: &Run) -> String {
+    let (t, slots) = (run.t, run.plan.slots);
+    let slot = if rng.chance(30) { rng.range(0, slots) } else { t };
+    match rng.below(9) {
+        0 => format!("lost={slot},0\n"),
+        1 => format!("lost={slot},{}\n", slots - t + rng.range(0, 2)),
+        2 => format!("lost={slot},{}\n", rng.range(1, 9999)),
+        3 => format!("ask={slot},0,{slots}\n"),
+        4 => format!("ask={slot},1,{}\n", rng.pick(&[0, t, slots + 1, slots])),
+        5 | 6 => format!("ask={slot},{},{}\n", rng.range(1, slots), rng.range(t.min(slots - 1) + 1, slots)),
+        7 => format!("ask={slot},{}\n", rng.range(1, 9)),
+        _ => format!("lost={slot}\n"),
+    }
 }
 
 fn any_kind(rng: &mut Rng) -> Kind {

@@ -1,10 +1,9 @@
 -- Words of the code of check 9 and of the analysis: the work of one job and of all, and its sums by home. The rules are in Acceptance and Analysis.
-use Prim.Native.Nat.{ℕ, _+_, _-_}
+use Prim.Native.Nat.{ℕ}
 use mathlib.Core.Bool.{Bool, true}
 use mathlib.Core.List.{List, zipWith}
 use Rattle.words.specs.Words.{if_then_else_, _<?_}
 use Rattle.plan.specs.declared.Job.{Job}
-use Rattle.plan.specs.Limits.{maxJobs, oneTo}
 use Rattle.spares.specs.Spares.{hiLeft, loLeft}
 use Rattle.spares.specs.Debt.{sumsByHome}
 
@@ -18,10 +17,6 @@ workAlong job counts = zipWith leftAlong job counts
 
 abbrev pub sumsAlong : List ℕ → List Job → List ℕ → List ℕ
 sumsAlong home job counts = sumsByHome home (workAlong job counts)
-
--- what a slot that names k takes off the HI work of its job j, which has had so many before; nothing where k names no job
-unfoldable pub slotWork : ℕ → Job → ℕ → ℕ
-slotWork k j count = if oneTo maxJobs k then leftAlong j count - leftAlong j (count + 1) else 0
 
 -- the HI or LO work of a job at border 0: live, with 0 given
 abbrev pub leftAtStart : Bool → Job → ℕ

@@ -1,78 +1,49 @@
 -- Check 9 passes exactly when A2 holds; a refusal shows a border by which too much may be asked. With check 8: what acceptance promises.
-use Prim.Native.Nat.{ℕ, suc, _+_, _-_, _≤_, _<_}
+use Prim.Native.Nat.{ℕ, _-_, _<_}
 use native.Mathlib.Omega.{arith}
-use mathlib.Core.Path.{_≡_, refl, _∙_}
+use mathlib.Core.Path.{_≡_, refl}
 use mathlib.Core.Logic.{_⊎_, inl, inr, ⊎-elim, _↔_}
-use mathlib.Core.Bool.{Bool, true, false, not}
+use mathlib.Core.Bool.{true, false, not}
 use lib.ListN.{length, getD}
 use borrow.Author.Tests.{not-true, not-false}
-use Rattle.words.specs.Words.{_<?_, below0}
 use Rattle.words.specs.Cases.{by-test, never}
 use Rattle.answers.specs.declared.Answer.the-variants.{Overdrawn}
 use Rattle.answers.specs.Answer.{accepted, _unless_, _andThen_}
-use Rattle.windows.specs.Windows.{dueBy, within, InTime}
-use Rattle.windows.specs.WindowLaws.{in-time-mono, due-mono}
+use Rattle.windows.specs.Windows.{dueBy, within}
+use Rattle.windows.specs.WindowLaws.{due-mono}
 use Rattle.plan.specs.declared.Plan.{Plan}
 use Rattle.plan.specs.Limits.{maxSlots, maxJobs}
-use Rattle.plan.specs.Plan.{jobsOf, slotsOf, blankJob, countsAt}
-use Rattle.plan.specs.CountLaws.{counts-at, counts-length}
-use Rattle.spares.specs.Spares.{hiLeft, row, current}
+use Rattle.plan.specs.Plan.{slotsOf}
 use Rattle.well_formed.specs.WellFormed.{wellFormed}
 use Rattle.window_sums.specs.WindowSums.{check8}
 use Rattle.acceptance.specs.Acceptance.{alongTable, check9, acceptance}
-use Rattle.well_formed.specs.InOrder.{jobAt, tab, InOrder}
+use Rattle.acceptance.specs.Borders.{overdrawn}
+use Rattle.acceptance.specs.AlongLaws.{along-asked, along-ahead, along-exactly}
+use Rattle.well_formed.specs.InOrder.{InOrder}
 use Rattle.spare_theory.specs.Promise.{windowsOf, hiOf, asked, A1, A2}
-use Rattle.words.specs.ZipLaws.{zip-at}
 use Rattle.answers.specs.RefusalLaws.{both-accept, one-refused, unless-holds, unless-fails, each-accepted, some-refused}
-use Rattle.well_formed.specs.InOrderLaws.{in-order, among-jobs, jobs-length, slots-length}
-use Rattle.spare_theory.specs.TableLaws.{asked-due}
-use Rattle.spare_theory.specs.SpareLaws.{not-below-exactly, below-shows}
+use Rattle.well_formed.specs.InOrderLaws.{in-order, slots-length}
+use Rattle.spare_theory.specs.SpareLaws.{below-shows}
 use Rattle.acceptance_promise.specs.Check8Laws.{a1-holds, a1-broken}
 
 module _ (p : Plan) (ok : InOrder p) where
-  -- the work along the table is what may be asked
-  along-asked : (t k : ℕ) → k < p .jobs → getD (alongTable p t) k 0 ≡ asked p t k
-  unfolding alongTable asked
-  along-asked t k l =
-      let few : k < maxJobs = (let b = ok .jobs in omega arith) in
-      let count : getD (countsAt p t) k 0 ≡ tab p k t = (let e : 1 + k ≡ suc k = omega arith in rw e at (counts-at p t k few)) in
-      zip-at (λ j c. hiLeft j (c <? j .lo) c) (jobsOf p) (countsAt p t) k blankJob 0 0 (rw (jobs-length p ok) l) (rw (counts-length p t) few)
-      ∙ rw (among-jobs p k l, count)
-
-  -- the test of check 9: along the table, the current HI spare is below 0 at border t
-  abbrev overdrawn : ℕ → Bool
-  overdrawn t = below0 (current p t (row p t (alongTable p t)))
-
-  module _ (t : ℕ) (before : t < p .slots) where
-    -- nothing may be asked that is due at or before t
-    along-ahead : (k : ℕ) → k < p .jobs → jobAt p k .deadline ≤ t → getD (alongTable p t) k 0 ≡ 0
-    along-ahead k l h = along-asked t k l ∙ asked-due p ok t k l h
-
-    -- check 9 at border t
-    along-exactly : (overdrawn t ≡ false) ↔ InTime (windowsOf p) t (asked p t)
-    along-exactly =
-        let s = not-below-exactly p ok (alongTable p t) t before along-ahead in (
-          λ h. in-time-mono (windowsOf p) t (λ k. getD (alongTable p t) k 0) (asked p t) (λ k l. omega (arith, along-asked t k l)) (s .0 h),
-          λ h. s .1 (in-time-mono (windowsOf p) t (asked p t) (λ k. getD (alongTable p t) k 0) (λ k l. omega (arith, along-asked t k l)) h),
-        )
-
   -- check 9 passes: A2 holds
   pub a2-holds : accepted (check9 p) ≡ true → A2 p
   unfolding check9 accepted
   a2-holds passes t before =
-      let h = each-accepted (λ t _. Overdrawn t unless not (overdrawn t)) 0 0 (slotsOf p) passes t (rw (slots-length p ok) before) t (omega arith) in
-      along-exactly t before .0 (not-true (overdrawn t) (unless-holds (Overdrawn t) (not (overdrawn t)) refl h))
+      let h = each-accepted (λ t _. Overdrawn t unless not (overdrawn p t)) 0 0 (slotsOf p) passes t (rw (slots-length p ok) before) t (omega arith) in
+      along-exactly p ok t before .0 (not-true (overdrawn p t) (unless-holds (Overdrawn t) (not (overdrawn p t)) refl h))
 
   -- check 9 refuses: at some border too much may be asked
   pub a2-broken : accepted (check9 p) ≡ false → (t e : ℕ) × (t < p .slots) × (e - t < dueBy (windowsOf p) (asked p t) e)
   unfolding check9
   a2-broken refused =
-      let x = some-refused (λ t _. Overdrawn t unless not (overdrawn t)) 0 0 (slotsOf p) refused in
+      let x = some-refused (λ t _. Overdrawn t unless not (overdrawn p t)) 0 0 (slotsOf p) refused in
       let t = x .1 in
       let before : t < p .slots = (let l = rw (slots-length p ok) at (x .2) in omega (arith, x .3)) in
-      let low = not-false (overdrawn t) (unless-fails (Overdrawn t) (not (overdrawn t)) (x .4)) in
-      let s = below-shows p ok (alongTable p t) t before (along-ahead t before) low in
-      (t, s .0, before, omega (arith, s .1, due-mono (windowsOf p) (asked p t) (λ k. getD (alongTable p t) k 0) (λ k l. omega (arith, along-asked t k l)) (s .0)))
+      let low = not-false (overdrawn p t) (unless-fails (Overdrawn t) (not (overdrawn p t)) (x .4)) in
+      let s = below-shows p ok (alongTable p t) t before (along-ahead p ok t before) low in
+      (t, s .0, before, omega (arith, s .1, due-mono (windowsOf p) (asked p t) (λ k. getD (alongTable p t) k 0) (λ k l. omega (arith, along-asked p ok t k l)) (s .0)))
 
   -- A2: check 9 passes exactly when at no border too much may be asked along the table
   pub a2-exactly : (accepted (check9 p) ≡ true) ↔ A2 p

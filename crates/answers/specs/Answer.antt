@@ -2,6 +2,7 @@
 use Prim.Native.Nat.{ℕ, suc}
 use mathlib.Core.Bool.{Bool}
 use mathlib.Core.List.{List, [], _∷_}
+use lib.ListN.{getD}
 use Rattle.answers.specs.declared.Answer.{Answer}
 use Rattle.answers.specs.declared.Answer.the-variants.{Accepted, Written, Form, SlotLimit, JobLimit, Window, Budget, TableSlot, TableCount, Overfull, Overdrawn, Incoherent, Over, OtherSlot, WrongKind, NoRoom}
 use Rattle.words.specs.Words.{if_then_else_, _=?_}
@@ -43,6 +44,10 @@ placesOf (Over t) = t ∷ []
 placesOf (OtherSlot t) = t ∷ []
 placesOf (WrongKind t) = t ∷ []
 placesOf (NoRoom bytes) = bytes ∷ []
+
+-- the place of an answer, the first of two
+abbrev pub firstPlace : Answer → ℕ
+firstPlace answer = getD (placesOf answer) 0 0
 
 -- answer 0 means accepted
 unfoldable pub accepted : Answer → Bool

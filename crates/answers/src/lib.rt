@@ -1,7 +1,7 @@
 // The answers: one enum for every call of the product. specs/Answer.antt has the number and the places of each case.
 ghost use mathlib.Core.Path.{_≡_};
 ghost use lib.ListN.{getD};
-ghost use Rattle.answers.specs.Answer.{accepted, numberOf, placesOf};
+ghost use Rattle.answers.specs.Answer.{accepted, numberOf, placesOf, firstPlace};
 
 // What a case holds is its place: a line, a job, a slot, a border, a count of bytes.
 pub enum Answer {
@@ -62,7 +62,7 @@ fn wide(x: u16) -> usize
 
 // The place of an answer, the first of two.
 pub fn first_place(answer: Answer) -> usize
-    ensures { λ r. ⌜ r ≡ getD (placesOf answer) 0 0 ⌝ }
+    ensures { λ r. ⌜ r ≡ firstPlace answer ⌝ }
 {
     match answer {
         Answer::Accepted => 0,

@@ -1,13 +1,12 @@
 -- Laws of digits printed: the last digit after the others, and a value with the byte that closes it.
 use Prim.Native.Nat.{ℕ, _+_, _/_, _%_, _≤_, _<_, _^_}
 use native.Mathlib.Omega.{arith}
-use mathlib.Core.Path.{_≡_, refl, sym, ap, _∙_}
-use mathlib.Core.List.{List, [], _∷_, _++_}
-use lib.ListN.{length, set, length-append}
+use mathlib.Core.Path.{_≡_, sym, ap, _∙_}
+use mathlib.Core.List.{List, _++_}
+use lib.ListN.{length, length-append}
 use Rattle.lines.specs.Lines.{digits}
 use Rattle.lines.specs.Writing.{put, putFit, placeAfter}
-use Rattle.lines.specs.WritingLaws.{length-put}
-use Rattle.console.specs.Pieces.{Piece, piece-fit, piece-within, piece-byte, piece-long, piece-room, piece-then, digits-last, digits-twenty}
+use Rattle.console.specs.Pieces.{Piece, piece-fit, piece-room, piece-then, digits-last, digits-twenty}
 
 -- the digits of a tenth were written, and then the last digit
 pub digits-piece : (n : ℕ) {at a r : ℕ} {d e f : List ℕ} → 10 ≤ n → n < 2 ^ 64 → at + length (digits n) ≤ length d → Piece 20 at (digits (n / 10)) d a e

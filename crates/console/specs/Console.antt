@@ -13,8 +13,7 @@ use Rattle.lines.specs.Writing.{put}
 use Rattle.plan.specs.Limits.{maxJobs}
 use Rattle.plan_text.specs.declared.reader.PlanPrefix.{PlanPrefix}
 use Rattle.plan_text.specs.Reader.{planPrefix}
-use Rattle.plan_text.specs.DecidedLaws.{enough}
-use Rattle.executive.specs.declared.Run.{Run}
+use Rattle.plan_text.specs.DecidedLaws.{isFinal}
 use Rattle.executive.specs.declared.Started.{Started}
 use Rattle.executive.specs.declared.Stepped.{Stepped}
 use Rattle.executive.specs.Run.{blankRun, start}
@@ -59,15 +58,15 @@ startedEvent c used line started =
     then record { printed = []; console = record { stage = Running; run = started .run; line = line }; used = used; waiting = false }
     else refuses c (started .answer)
 
--- with fewer than `enough` bytes in hand a refused plan may yet be completed
-abbrev pub prefixEvent : Console → ℕ → PlanPrefix → Event
-prefixEvent c inHand prefix =
+-- a refusal is given once the line at fault is complete, or with `enough` bytes in hand: more text would not change it
+abbrev pub prefixEvent : Console → List ℕ → PlanPrefix → Event
+prefixEvent c s prefix =
     if accepted (prefix .answer) then startedEvent c (prefix .next) (prefix .line) (start (prefix .plan))
-    else if inHand <? enough then waits c
-    else refuses c (prefix .answer)
+    else if isFinal s (prefix .answer) then refuses c (prefix .answer)
+    else waits c
 
 unfoldable pub planEvent : Console → List ℕ → Event
-planEvent c s = prefixEvent c (length s) (planPrefix s)
+planEvent c s = prefixEvent c s (planPrefix s)
 
 -- ---- a report line
 

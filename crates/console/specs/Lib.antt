@@ -8,6 +8,7 @@ pub mod Reports
 pub mod Console
 pub mod LineLaws
 pub mod SessionLaws
+pub mod ProgressLaws
 pub mod HeldLaws
 pub mod Lists
 pub mod Turns

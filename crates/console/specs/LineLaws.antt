@@ -1,29 +1,28 @@
--- Laws of lines under more text: how many lines a plan has, a closed line stays as it is, and a report line is decided by its longest form.
+-- Laws of lines under more text: how many lines a plan has, and a report line is decided by its longest form.
 use Prim.Native.Nat.{ℕ, zero, suc, _+_, _*_, _≤_, _<_}
 use Prim.Native.String.{String}
 use native.Mathlib.Nat.{suc-mul}
 use native.Mathlib.Omega.{arith}
-use mathlib.Core.Path.{_≡_, refl, sym, ap, _∙_}
+use mathlib.Core.Path.{_≡_, refl, sym, ap}
 use mathlib.Core.Bool.{true}
-use mathlib.Core.List.{List, [], _∷_, _++_}
+use mathlib.Core.List.{List, [], _∷_}
 use mathlib.Core.Option.{Option, none, some}
 use lib.ListN.{length, take, drop, length-drop, length-take}
 use borrow.Author.Tests.{leb-true, leb-false}
 use Rattle.words.specs.Words.{_≤?_}
 use Rattle.words.specs.Cases.{by-test}
 use Rattle.answers.specs.declared.Answer.{Answer}
-use Rattle.answers.specs.declared.Answer.the-variants.{SlotLimit, JobLimit, Form}
+use Rattle.answers.specs.declared.Answer.the-variants.{SlotLimit, JobLimit}
 use Rattle.answers.specs.Answer.{accepted, _unless_}
-use Rattle.lines.specs.Lines.{bytes, number, Cursor, Read, got, refused, Reader, give, onward, _>>=_, must, many, lineLength, valueIn, orForm, field}
+use Rattle.lines.specs.Lines.{bytes, number, Cursor, got, Reader, give, _>>=_, must, many, valueIn, orForm, field}
 use Rattle.lines.specs.RoundLaws.{cursor, unread, got-same, onward-back, must-back}
 use Rattle.lines.specs.ReadingLaws.{number-long, same-length}
-use Rattle.lines.specs.DecidedLaws.{Decided, value-closed, field-decided}
+use Rattle.lines.specs.DecidedLaws.{Decided, field-decided}
 use Rattle.plan.specs.declared.Plan.{Plan}
 use Rattle.plan.specs.Limits.{maxSlots, maxJobs, oneTo}
 use Rattle.plan_text.specs.PrefixLaws.{keeps-limit}
 use Rattle.plan_text.specs.Read.{levelIn, nextJob, nextPlan, startOf}
 use Rattle.entries.specs.declared.Kind.{Kind}
-use Rattle.executive.specs.declared.Report.{Report}
 use Rattle.console.specs.Run.{kindIn, beforeComma, report, reportIn}
 use Rattle.console.specs.Reports.{comma-within}
 
@@ -90,18 +89,6 @@ plan-lines =
 -- the first line after a plan has a number of at most 675
 pub plan-line : (s r : List ℕ) (p : Plan) (m : ℕ) → nextPlan (startOf s) ≡ got p (cursor m r) → m ≤ 675
 plan-line s r p m e = omega (arith, plan-lines (startOf s) (cursor m r) p e)
-
--- ---- a closed line under more text
-
--- what is refused on a closed line stays refused
-pub closed-refused : {A : Type 0} (meaning : List ℕ → Option A) (key : String) (l : ℕ) (s u : List ℕ) → lineLength s < length s
-    → field meaning key (cursor l s) ≡ refused (Form l) → field meaning key (cursor l (s ++ u)) ≡ refused (Form l)
-unfolding field
-closed-refused {A} meaning key l s u h e = pick (valueIn meaning (bytes key) s) (value-closed meaning (bytes key) s u h) e
-  where
-    pick : (o : Option A) → valueIn meaning (bytes key) (s ++ u) ≡ o → orForm o (cursor l s) ≡ refused (Form l) → orForm (valueIn meaning (bytes key) (s ++ u)) (cursor l (s ++ u)) ≡ refused (Form l)
-    pick (some a) p e = unread (sym e)
-    pick none p e = rw p
 
 -- ---- a report line
 

@@ -1,17 +1,16 @@
 -- What the functions that read a report answer, and their laws: each return of the code by its law, and that the first line is the definitions' field.
-use Prim.Native.Nat.{ℕ, zero, suc, _+_, _≤_, _<_}
+use Prim.Native.Nat.{ℕ, suc, _+_, _≤_, _<_}
 use native.Mathlib.Numerals.{add-one}
-use native.Mathlib.Nat.{le-of-suc-le-suc}
 use native.Mathlib.Omega.{arith}
 use mathlib.Core.Path.{_≡_, refl, sym, ap, _∙_}
-use mathlib.Core.Bool.{Bool, true, false}
+use mathlib.Core.Bool.{true, false}
 use mathlib.Core.List.{List, [], _∷_}
 use mathlib.Core.Option.{Option, none, some}
 use lib.ListN.{length, getD, take, drop, length-drop, drop-of-length-le}
 use lib.Seq.{drop-cons, take-all}
 use borrow.Author.Tests.{eq-eqb, ne-eqb}
 use Rattle.answers.specs.declared.Answer.the-variants.{Form}
-use Rattle.words.specs.Words.{if_then_else_, _=?_}
+use Rattle.words.specs.Words.{_=?_}
 use Rattle.words.specs.Cases.{by-test}
 use Rattle.entries.specs.declared.Kind.{Kind}
 use Rattle.entries.specs.declared.Kind.the-variants.{End, More, None}
@@ -19,7 +18,7 @@ use Rattle.executive.specs.declared.Report.{Report}
 use Rattle.lines.specs.declared.reading.ValueAt.the-variants.{At, Refused}
 use Rattle.lines.specs.declared.reading.Number.{Number}
 use Rattle.lines.specs.declared.reading.Number.the-variants as Number
-use Rattle.lines.specs.Lines.{bytes, comma, sameBytes, number, Cursor, Read, got, refused, lineLength, lineOn, orForm, valueIn, field}
+use Rattle.lines.specs.Lines.{bytes, comma, sameBytes, number, got, refused, lineLength, orForm, valueIn, field}
 use Rattle.lines.specs.Reading.{valueAt, numberRead}
 use Rattle.lines.specs.ReadingLaws.{value-there, value-none, value-within}
 use Rattle.lines.specs.RoundLaws.{cursor}

@@ -8,20 +8,21 @@ use mathlib.Core.List.{List, [], _∷_, _++_, append-nil, append-assoc}
 use mathlib.Core.Option.{Option, none, some}
 use mathlib.Core.Logic.{_⊎_, inl, inr, ⊎-elim}
 use lib.ListN.{length, drop, length-append, length-drop}
-use borrow.Author.Tests.{lt-ltb, le-ltb, ltb-true, ltb-false, leb-true, leb-false, eq-eqb, ne-eqb}
-use Rattle.words.specs.Words.{if_then_else_, _≤?_, _<?_, _=?_}
-use Rattle.words.specs.Cases.{by-test, by-less, by-equal, both-hold}
+use borrow.Author.Tests.{lt-ltb, ltb-true, leb-true, eq-eqb, ne-eqb}
+use Rattle.words.specs.Words.{_≤?_, _<?_}
+use Rattle.words.specs.Cases.{by-test, by-equal, both-hold}
 use Rattle.answers.specs.declared.Answer.{Answer}
-use Rattle.answers.specs.declared.Answer.the-variants.{Accepted, Form, Incoherent, Over}
-use Rattle.answers.specs.Answer.{accepted, _unless_, _andThen_}
+use Rattle.answers.specs.declared.Answer.the-variants.{Form, Incoherent, Over}
+use Rattle.answers.specs.Answer.{accepted, _unless_}
 use Rattle.answers.specs.RefusalLaws.{unless-holds, both-accept}
-use Rattle.lines.specs.Lines.{bytes, number, Cursor, Read, got, refused, lineLength, lineOn, orForm, valueIn, field}
+use Rattle.lines.specs.Lines.{bytes, Cursor, Read, got, refused, lineLength, linesIn, orForm, valueIn, field}
 use Rattle.lines.specs.RoundLaws.{cursor, unread, got-same}
+use Rattle.lines.specs.DecidedLaws.{lines-closed}
 use Rattle.plan.specs.declared.Plan.{Plan}
-use Rattle.plan_text.specs.Read.{nextPlan, startOf, readPlan}
+use Rattle.plan_text.specs.Read.{nextPlan, startOf}
 use Rattle.plan_text.specs.Reader.{planPrefix}
 use Rattle.plan_text.specs.PrefixLaws.{prefix-stands, prefix-refused}
-use Rattle.plan_text.specs.DecidedLaws.{enough, plan-goes, plan-stays, text-stays}
+use Rattle.plan_text.specs.DecidedLaws.{enough, plan-goes, text-stays, isFinal, final-stays}
 use Rattle.well_formed.specs.WellFormed.{wellFormed}
 use Rattle.well_formed.specs.InOrderLaws.{slot-limit}
 use Rattle.executive.specs.declared.Run.{Run}
@@ -37,10 +38,10 @@ use Rattle.console.specs.declared.reports.ReportAt.{ReportAt}
 use Rattle.console.specs.declared.reports.ReportAt.the-variants as ReportAt
 use Rattle.console.specs.Print.{refusedLine}
 use Rattle.console.specs.Check.{checkOutput}
-use Rattle.console.specs.Run.{reportIn, Reports, end, bad, next, reportThen, reportsIn, stepLine, jobLines, goOn, startedOutput, planOutput, runOutput}
+use Rattle.console.specs.Run.{reportIn, end, next, reportThen, reportsIn, stepLine, jobLines, goOn, startedOutput, runOutput}
 use Rattle.console.specs.Reports.{reportAt, report-got, report-bad}
-use Rattle.console.specs.LineLaws.{plan-line, closed-refused, report-decided}
-use Rattle.console.specs.Console.{freshConsole, stopped, Event, waits, refuses, startedEvent, prefixEvent, planEvent, longestReport, lineReady, lineAfter, steppedEvent, reportEvent, lineEvent, eventIn, event, unreadOutput, endIn, endOutput, Settled, after, settled, session}
+use Rattle.console.specs.LineLaws.{plan-line, report-decided}
+use Rattle.console.specs.Console.{freshConsole, Event, waits, refuses, startedEvent, planEvent, longestReport, lineReady, lineAfter, reportEvent, lineEvent, eventIn, event, unreadOutput, endIn, endOutput, Settled, after, settled, session}
 
 -- ---- the check program: what follows enough bytes and one more does not matter
 
@@ -209,9 +210,9 @@ module _ (c : Console) (s u : List ℕ) where
         by-test (accepted (planPrefix s .answer))
         (λ h. rw h (started-sound (planPrefix s .plan) (planPrefix s .next) (planPrefix s .line) (prefix-stands s (planPrefix s) refl h .0)))
         (λ h. let e = prefix-refused s (planPrefix s) refl h in
-        by-less (length s) enough
-        (λ l. rw (h, lt-ltb (length s) enough l) (waits-sound g))
-        (λ l. rw (h, le-ltb (length s) enough l) (refuses-sound _ (whole ∙ rw (plan-stays s u _ l e)))))
+        by-test (isFinal s (planPrefix s .answer))
+        (λ f. rw (h, f) (refuses-sound _ (whole ∙ rw (final-stays s u _ f e))))
+        (λ f. rw (h, f) (waits-sound g)))
 
   -- ---- a report line
 
@@ -246,7 +247,7 @@ module _ (c : Console) (s u : List ℕ) where
       bad-sound ready e =
           let f = report-bad s (c .line) e in
           let g : field reportIn "report=" (cursor (c .line) (s ++ u)) ≡ refused (Form (c .line)) =
-          ⊎-elim (λ h. closed-refused reportIn "report=" (c .line) s u h f) (λ h. report-decided .stays (c .line) s u (Form (c .line)) h f) ready in
+          ⊎-elim (λ h. report-decided .closes (c .line) s u (Form (c .line)) (omega (arith, lines-closed s h)) f) (λ h. report-decided .stays (c .line) s u (Form (c .line)) h f) ready in
           refuses-sound _ (run-whole ∙ run-bad (c .run) (c .line) (s ++ u) nonempty′ (Form (c .line)) g)
 
     line-sound : Small c → Sound c s u (lineEvent c s)
@@ -359,9 +360,9 @@ module _ (c : Console) (s : List ℕ) where
   plan-less w =
       by-test (accepted (planPrefix s .answer))
       (λ h. rw h (started-less (planPrefix s .next) (planPrefix s .line) (planPrefix s .plan)))
-      (λ h. by-less (length s) enough
-      (λ l. absurd (false≢true (sym (rw (h, lt-ltb (length s) enough l) at w))))
-      (λ l. rw (h, le-ltb (length s) enough l) (omega arith)))
+      (λ h. by-test (isFinal s (planPrefix s .answer))
+      (λ f. rw (h, f) (omega arith))
+      (λ f. absurd (false≢true (sym (rw (h, f) at w)))))
 
   report-less : (length s ≡ 0 → ⊥) → (o : ReportAt) → reportAt s ≡ o → todo (reportEvent c o .console) (drop (reportEvent c o .used) s) < length s
   report-less nonempty (ReportAt.Got report place) e =
@@ -421,7 +422,7 @@ session-sound c left (piece ∷ pieces) g w =
     ∙ ap (outputFrom c) (append-assoc left piece (together pieces))
 
 pub fresh-waits : event freshConsole [] .waiting ≡ true
-unfolding event planEvent planPrefix nextPlan field valueIn lineLength accepted
+unfolding event planEvent planPrefix nextPlan field valueIn lineLength linesIn isFinal accepted
 fresh-waits = refl
 
 -- whatever pieces the input comes in, all that is printed is the output for the whole input

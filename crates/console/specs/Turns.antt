@@ -1,23 +1,23 @@
 -- What the console's functions answer: the event, written into the lent output; the step line by the choice; and their laws.
-use Prim.Native.Nat.{ℕ, zero, suc, _+_, _*_, _≤_, _<_}
+use Prim.Native.Nat.{ℕ, _+_, _≤_, _<_}
 use native.Mathlib.Omega.{arith}
 use mathlib.Core.Path.{_≡_, refl, sym, ap, _∙_}
-use mathlib.Core.Bool.{Bool, true, false, _||_}
-use mathlib.Core.List.{List, [], _∷_, _++_}
-use lib.ListN.{length, take, drop}
-use borrow.Author.Tests.{lt-ltb, le-ltb, le-leb, lt-leb, eq-eqb, ne-eqb}
-use Rattle.words.specs.Words.{if_then_else_, _≤?_, _<?_, _=?_}
-use Rattle.words.specs.Cases.{by-test, by-less, never}
+use mathlib.Core.Bool.{Bool, true, false, not}
+use mathlib.Core.List.{List, []}
+use lib.ListN.{length, drop}
+use borrow.Author.Tests.{lt-ltb, le-ltb, le-leb, lt-leb, eq-eqb, ne-eqb, not-true, not-false}
+use Rattle.words.specs.Words.{_≤?_}
+use Rattle.words.specs.Cases.{by-test, never}
 use Rattle.answers.specs.declared.Answer.{Answer}
 use Rattle.answers.specs.declared.Answer.the-variants.{Form}
-use Rattle.answers.specs.Answer.{accepted}
-use Rattle.lines.specs.Lines.{lineLength}
+use Rattle.answers.specs.Answer.{accepted, firstPlace}
+use Rattle.lines.specs.Lines.{lineLength, linesIn}
 use Rattle.lines.specs.Writing.{put}
 use Rattle.lines.specs.WritingLaws.{put-nil, length-put}
 use Rattle.plan_text.specs.declared.reader.PlanPrefix.{PlanPrefix}
 use Rattle.plan_text.specs.Reader.{planPrefix}
 use Rattle.plan_text.specs.PrefixLaws.{prefix-stands}
-use Rattle.plan_text.specs.DecidedLaws.{enough}
+use Rattle.plan_text.specs.DecidedLaws.{enough, isFinal}
 use Rattle.executive.specs.declared.Run.{Run}
 use Rattle.executive.specs.declared.Report.{Report}
 use Rattle.executive.specs.declared.Started.{Started}
@@ -36,7 +36,7 @@ use Rattle.console.specs.Run.{stepLine, jobLines}
 use Rattle.console.specs.Reports.{reportAt, report-within}
 use Rattle.console.specs.Pieces.{Piece, CountsIn, counts-in, piece-counts}
 use Rattle.console.specs.Printed.{stepLineFrom}
-use Rattle.console.specs.Console.{Event, waits, refuses, startedEvent, prefixEvent, planEvent, lineReady, longestReport, lineAfter, steppedEvent, reportEvent, lineEvent, eventIn, event, unreadOutput, endIn, endOutput, runRoom, turnOf, nextTurn, nextOut, endLength, endWritten}
+use Rattle.console.specs.Console.{Event, waits, refuses, startedEvent, planEvent, lineReady, longestReport, lineAfter, steppedEvent, reportEvent, lineEvent, eventIn, event, unreadOutput, endIn, endOutput, runRoom, turnOf, nextTurn, nextOut, endLength, endWritten}
 
 -- the turn is the event's, and what it prints stands at the start of the output
 pub record Told (e : Event) (d : List ℕ) (r : Turn) (d′ : List ℕ) : Type 0 where
@@ -76,13 +76,23 @@ module _ (c : Console) (s : List ℕ) (p : PlanPrefix) (is : p ≡ planPrefix s)
     h′ : accepted (planPrefix s .answer) ≡ false
     h′ = rw is at h
 
-    pub plan-waits : length s < enough → waits c ≡ planEvent c s
-    unfolding planEvent
-    plan-waits l = rw (h′, lt-ltb (length s) enough l)
+    module _ (t : Bool) (final : t ≡ isFinal s (p .answer)) where
+      pub plan-waits : not t ≡ true → waits c ≡ planEvent c s
+      unfolding planEvent
+      plan-waits l = let f : isFinal s (planPrefix s .answer) ≡ false = rw is at (sym final ∙ not-true t l) in rw (h′, f)
 
-    pub plan-refused : enough ≤ length s → refuses c (p .answer) ≡ planEvent c s
-    unfolding planEvent
-    plan-refused l = rw (h′, le-ltb (length s) enough l, is)
+      pub plan-refused : not t ≡ false → refuses c (p .answer) ≡ planEvent c s
+      unfolding planEvent
+      plan-refused l = let f : isFinal s (planPrefix s .answer) ≡ true = rw is at (sym final ∙ not-false t l) in rw (h′, f, is)
+
+module _ (s : List ℕ) (x : Answer) (line : ℕ) (is : line ≡ firstPlace x) (t : Bool) (has : t ≡ (line ≤? linesIn s)) where
+  pub final-closed : t ≡ true → true ≡ isFinal s x
+  unfolding isFinal
+  final-closed h = rw (← is, ← has, h)
+
+  pub final-long : t ≡ false → (enough ≤? length s) ≡ isFinal s x
+  unfolding isFinal
+  final-long h = rw (← is, ← has, h)
 
 module _ (s : List ℕ) (p : PlanPrefix) (is : p ≡ planPrefix s) where
   pub unread-refused : accepted (p .answer) ≡ false → refusedLine (p .answer) ≡ unreadOutput (planPrefix s)
@@ -160,7 +170,7 @@ module _ (c : Console) (s : List ℕ) where
   plan-used =
       by-test (accepted (planPrefix s .answer))
       (λ h. rw h (started-used (planPrefix s .next) (planPrefix s .line) (start (planPrefix s .plan)) (prefix-stands s (planPrefix s) refl h .1)))
-      (λ h. by-less (length s) enough (λ l. rw (h, lt-ltb (length s) enough l) (omega arith)) (λ l. rw (h, le-ltb (length s) enough l) (omega arith)))
+      (λ h. by-test (isFinal s (planPrefix s .answer)) (λ f. rw (h, f) (omega arith)) (λ f. rw (h, f) (omega arith)))
 
   line-used : lineEvent c s .used ≤ length s
   unfolding lineEvent

@@ -1,6 +1,6 @@
 // The check program: all that it reads to all that it prints. Reading and writing are in check_plan.
 ghost use mathlib.Core.Path.{_≡_};
-ghost use Prim.Native.Nat.{_+_, _*_, _≤_, min};
+ghost use Prim.Native.Nat.{_*_, _≤_, min};
 ghost use lib.ListN.{length, take};
 ghost use Rattle.intervals.specs.Intervals.{maxIntervals};
 ghost use Rattle.console.specs.Check.{intervalLines, analysisLines};

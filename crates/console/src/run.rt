@@ -1,11 +1,11 @@
 // The run program's console: a value that is handed the input piece by piece and says what is printed. Reading and writing are in run_plan.
 ghost use mathlib.Core.Path.{_≡_};
-ghost use Prim.Native.Nat.{_+_, _*_, _≤_, min};
-ghost use lib.ListN.{length, take};
+ghost use Prim.Native.Nat.{_+_, _≤_, min};
+ghost use lib.ListN.{length};
+ghost use mathlib.Core.Bool.{true};
 ghost use Rattle.plan.specs.Limits.{maxJobs};
 ghost use Rattle.executive.specs.Run.{start};
 ghost use Rattle.executive.specs.Step.{step};
-ghost use Rattle.console.specs.Print.{refusedLine};
 ghost use Rattle.console.specs.Run.{jobNumber, jobLines};
 ghost use Rattle.console.specs.Printed.{stepLineFrom};
 ghost use Rattle.console.specs.Pieces.{Piece, longest, CountsIn};
@@ -13,6 +13,7 @@ ghost use Rattle.console.specs.Console.{freshConsole, waits, refuses, st
 ghost use Rattle.console.specs.Turns.{Told};
 ghost use Rattle.console.specs.declared.run.Stage.the-variants.{Running};
 ghost use Rattle.plan_text.specs.Reader.{planPrefix};
+ghost use Rattle.plan_text.specs.DecidedLaws.{isFinal};
 use crate::print::put_job_line;
 use crate::print::put_refused_line;
 use crate::print::put_step_line;
@@ -119,6 +120,17 @@ fn begun(c: Console, plan: Plan, used: usize, line: u16, out: &mut [u8]) -> Turn
     }
 }
 
+// More text would not change this refusal: the line at fault is complete, or the bytes in hand are enough.
+fn is_final(text: &[u8], answer: Answer) -> bool
+    ensures { λ r. ⌜ r ≡ isFinal (now (text .entry)) answer ⌝ }
+{
+    let line = answers::first_place(answer);
+    if lines::counting::has_lines(text, line) {
+        return true;
+    }
+    ENOUGH <= text.len()
+}
+
 // The plan at the start of the text, once it is there or can no longer be completed.
 fn take_plan(c: Console, text: &[u8], out: &mut [u8]) -> Turn
     requires { ⌜ runRoom ≤ length (now out) ⌝ }
@@ -130,7 +142,7 @@ fn take_plan(c: Console, text: &[u8], out: &mut [u8]) -> Turn
         let plan = prefix.plan;
         return begun(c, plan, prefix.next, prefix.line, out);
     }
-    if text.len() < ENOUGH {
+    if !is_final(text, answer) {
         return waiting(c);
     }
     refused(c, answer, out)

@@ -13,6 +13,10 @@ use Rattle.entries.specs.declared.Kind.{Kind}
 use Rattle.executive.specs.Run.{start}
 use Rattle.executive.specs.Step.{step}
 
+-- an answer's first place and its second, 0 for one that it does not have
+abbrev pub bothPlaces : Answer → List ℕ
+bothPlaces a = getD (placesOf a) 0 0 ∷ getD (placesOf a) 1 0 ∷ []
+
 -- how many bytes were written; none by a refusal
 unfoldable pub bytesWritten : Answer → ℕ
 bytesWritten a = if accepted a then getD (placesOf a) 0 0 else 0

@@ -5,7 +5,7 @@ ghost use lib.ListN.{length};
 ghost use Rattle.answers.specs.Answer.{numberOf};
 ghost use Rattle.plan_text.specs.Read.{readPlan};
 ghost use Rattle.plan_text.specs.Write.{writeAnswer, writeOut};
-ghost use Rattle.embed.specs.Embed.{bytesWritten, analysed, kindOf, walkFrom, walked};
+ghost use Rattle.embed.specs.Embed.{bothPlaces, bytesWritten, analysed, kindOf, walkFrom, walked};
 ghost use Rattle.lines.specs.Writing.{putFit, placeAfter};
 ghost use Rattle.console.specs.Lists.{checkLength, checkWritten};
 ghost use Rattle.console.specs.Run.{runOutput};
@@ -16,14 +16,26 @@ use executive::Run;
 
 mod run;
 
-// The number of the reader's answer: 0, 1, 2 or 3.
+// An answer for the host: its number, and its places in `places`, 0 for one that it does not have.
+fn told(answer: Answer, places: &mut [usize; 2]) -> u16
+    ensures { λ r. ⌜ r ≡ numberOf answer ⌝ }
+    ensures { λ _. ⌜ now (places .exit) ≡ bothPlaces answer ⌝ }
+{
+    let first = answers::first_place(answer);
+    let second = answers::second_place(answer);
+    *places = [first, second];
+    answers::number_of(answer)
+}
+
+// The reader's answer: 0, 1, 2 or 3, and its places.
 #[no_mangle]
-pub extern "C" fn embed_read(text: &[u8]) -> u16
+pub extern "C" fn embed_read(text: &[u8], places: &mut [usize; 2]) -> u16
     ensures { λ r. ⌜ r ≡ numberOf (readPlan (now (text .entry)) .answer) ⌝ }
+    ensures { λ _. ⌜ now (places .exit) ≡ bothPlaces (readPlan (now (text .entry)) .answer) ⌝ }
 {
     let read = plan_text::reader::read_plan(text);
     let answer = read.answer;
-    answers::number_of(answer)
+    told(answer, places)
 }
 
 fn bytes_written(answer: Answer) -> usize
@@ -61,12 +73,13 @@ fn analysed(text: &[u8]) -> Answer
     analysis.answer
 }
 
-// Reads a plan and analyses it: the number of the first refusal, 0 where both accept.
+// Reads a plan and analyses it: the first refusal's number and places, 0 where both accept.
 #[no_mangle]
-pub extern "C" fn embed_analyse(text: &[u8]) -> u16
+pub extern "C" fn embed_analyse(text: &[u8], places: &mut [usize; 2]) -> u16
     ensures { λ r. ⌜ r ≡ numberOf (analysed (now (text .entry))) ⌝ }
+    ensures { λ _. ⌜ now (places .exit) ≡ bothPlaces (analysed (now (text .entry))) ⌝ }
 {
-    answers::number_of(analysed(text))
+    told(analysed(text), places)
 }
 
 fn kind_of(byte: u8) -> Kind
@@ -121,12 +134,13 @@ fn walked(text: &[u8], kinds: &[u8]) -> Answer
     walk_from(run, kinds)
 }
 
-// Reads a plan, starts it, and reports once for each kind, for slot t: the number of the first refusal, else 0.
+// Reads a plan, starts it, and reports once for each kind, for slot t: the first refusal's number and places, else 0.
 #[no_mangle]
-pub extern "C" fn embed_walk(text: &[u8], kinds: &[u8]) -> u16
+pub extern "C" fn embed_walk(text: &[u8], kinds: &[u8], places: &mut [usize; 2]) -> u16
     ensures { λ r. ⌜ r ≡ numberOf (walked (now (text .entry)) (now (kinds .entry))) ⌝ }
+    ensures { λ _. ⌜ now (places .exit) ≡ bothPlaces (walked (now (text .entry)) (now (kinds .entry))) ⌝ }
 {
-    answers::number_of(walked(text, kinds))
+    told(walked(text, kinds), places)
 }
 
 // The check program's whole output for this input, at the start of `out`: its length. An output with less than

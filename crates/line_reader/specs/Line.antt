@@ -1,14 +1,19 @@
--- The line at a place of a text: one that is closed by LF, or none.
-use Prim.Native.Nat.{ℕ, _+_}
-use mathlib.Core.List.{List}
-use lib.ListN.{length, drop}
-use Rattle.words.specs.Words.{if_then_else_, _<?_}
-use Rattle.lines.specs.Lines.{lineLength}
-use Rattle.lines.specs.Reading.{lineAfter}
-use Rattle.line_reader.specs.declared.Line.{Line}
-use Rattle.line_reader.specs.declared.Line.the-variants.{Has, End}
+-- Where a reader goes from a line that it saw, and what it saw with the place that it reached.
+use Prim.Native.Nat.{ℕ}
+use mathlib.Core.Path.{_≡_, refl}
+use Rattle.lines.specs.declared.reading.ValueAt.{ValueAt}
+use Rattle.lines.specs.declared.reading.ValueAt.the-variants.{At, Refused}
 
-unfoldable pub lineAt : List ℕ → ℕ → Line
-lineAt text at =
-    let s = drop at text in
-    if lineLength s <? length s then Has (lineLength s) (lineAfter text at) else End
+-- past the line that was seen; where none was the reader stays
+abbrev pub nextPlace : ValueAt → ℕ → ℕ
+nextPlace (At start len next) at = next
+nextPlace Refused at = at
+
+abbrev pub withNext : ValueAt → ℕ → ValueAt
+withNext (At start len old) next = At start len next
+withNext Refused next = Refused
+
+-- a reader that goes past the line hands back where the next one starts
+pub goes-past : (seen : ValueAt) (at : ℕ) → withNext seen (nextPlace seen at) ≡ seen
+goes-past (At start len next) at = refl
+goes-past Refused at = refl

@@ -1,13 +1,15 @@
-// The line reader: it holds the caller's text and its place. Each function takes it apart and calls a covered one on slice and number;
-// `line_from` and `part_from` have plain parameters, so their callers need no walk. What a line means is in lines and above.
+// The line reader: it holds the caller's text and its place, and goes from line to line. Each function over it takes it apart and leaves
+// the work to a covered one on slice and number. `find_value` and `part_from` have plain parameters, so their callers need no walk.
+// What a line means is in lines and above.
 ghost use mathlib.Core.Path.{_≡_};
 ghost use lib.ListN.{take, drop};
 ghost use Rattle.lines.specs.Reading.{valueAt, numberAt};
-ghost use Rattle.line_reader.specs.Line.{lineAt};
+ghost use Rattle.line_reader.specs.Line.{nextPlace, withNext};
 use lines::reading::Number;
 use lines::reading::NumberAt;
 use lines::reading::ValueAt;
-use lines::reading::begins_with;
+use lines::reading::key_at;
+use lines::reading::line_end;
 use lines::reading::read_number;
 
 pub struct LineReader<'a> {
@@ -15,29 +17,51 @@ pub struct LineReader<'a> {
     pub at: usize,
 }
 
-// A line that is closed by LF: how long it is, and where the next one starts.
-pub enum Line {
-    Has { len: usize, next: usize },
-    End,
+// The work: where the value of the line at `at` stands. The key goes first: the LF is looked for only behind it.
+fn value_at(text: &[u8], at: usize, key: &[u8]) -> ValueAt
+    ensures { λ r. ⌜ r ≡ valueAt (now (text .entry)) at (now (key .entry)) ⌝ }
+{
+    if !key_at(text, at, key) {
+        return ValueAt::Refused;
+    }
+    let start = at + key.len();
+    let end = line_end(text, start);
+    if end >= text.len() {
+        return ValueAt::Refused;
+    }
+    ValueAt::At {
+        start,
+        len: end - start,
+        next: end + 1,
+    }
 }
 
-// The work: the line at a place of the text.
-pub fn line_at(text: &[u8], at: usize) -> Line
-    ensures { λ r. ⌜ r ≡ lineAt (now (text .entry)) at ⌝ }
+// The work: where a reader at `at` goes, past the LF of the line that was seen. Where none was it stays.
+fn next_place(seen: ValueAt, at: usize) -> usize
+    ensures { λ r. ⌜ r ≡ nextPlace seen at ⌝ }
 {
-    let end = lines::reading::line_end(text, at);
-    if end < text.len() {
-        Line::Has {
-            len: end - at,
-            next: end + 1,
-        }
-    } else {
-        Line::End
+    match seen {
+        ValueAt::At { start, len, next } => next,
+        ValueAt::Refused => at,
+    }
+}
+
+// The work: what was seen, with the place of the reader that moved on.
+fn with_next(seen: ValueAt, next: usize) -> ValueAt
+    ensures { λ r. ⌜ r ≡ withNext seen next ⌝ }
+{
+    match seen {
+        ValueAt::At {
+            start,
+            len,
+            next: old,
+        } => ValueAt::At { start, len, next },
+        ValueAt::Refused => ValueAt::Refused,
     }
 }
 
 // The work: the part of the text that is `len` bytes from `start` on, shorter at the text's end.
-pub fn part_at<'a>(text: &'a [u8], start: usize, len: usize) -> &'a [u8]
+fn part_at<'a>(text: &'a [u8], start: usize, len: usize) -> &'a [u8]
     ensures { λ r. ⌜ now r ≡ take len (drop start (now (text .entry))) ⌝ }
 {
     lines::reading::value(text, start, len)
@@ -50,11 +74,18 @@ pub fn reader_at<'a>(text: &'a [u8], at: usize) -> LineReader<'a>
     LineReader { text, at }
 }
 
-// The line at the reader's place.
-pub fn look<'a>(r: LineReader<'a>) -> Line
-    ensures { λ s. ⌜ s ≡ lineAt (now (r .entry .text)) (r .entry .at) ⌝ }
+// The reader's place.
+pub fn place<'a>(r: LineReader<'a>) -> usize
+    ensures { λ n. ⌜ n ≡ r .entry .at ⌝ }
 {
-    line_at(r.text, r.at)
+    r.at
+}
+
+// The line at the reader's place: where its value stands, or refused where it is missing, is not closed or has another key.
+pub fn look<'a, 'b>(r: LineReader<'a>, key: &'b [u8]) -> ValueAt
+    ensures { λ s. ⌜ s ≡ valueAt (now (r .entry .text)) (r .entry .at) (now (key .entry)) ⌝ }
+{
+    value_at(r.text, r.at, key)
 }
 
 // The reader of the same text at another place, as past a line.
@@ -71,11 +102,14 @@ pub fn part<'a>(r: LineReader<'a>, start: usize, len: usize) -> &'a [u8]
     part_at(r.text, start, len)
 }
 
-// The line at a place, by way of the reader.
-pub fn line_from(text: &[u8], at: usize) -> Line
-    ensures { λ r. ⌜ r ≡ lineAt (now (text .entry)) at ⌝ }
+// One line walked: a reader at `at` looks at its line, moves past the LF, and its place is where the next line starts.
+// Refused where the line is missing, is not closed or has another key.
+pub fn find_value<'a, 'b>(text: &'a [u8], at: usize, key: &'b [u8]) -> ValueAt
+    ensures { λ r. ⌜ r ≡ valueAt (now (text .entry)) at (now (key .entry)) ⌝ }
 {
-    look(reader_at(text, at))
+    let here = reader_at(text, at);
+    let seen = look(here, key);
+    with_next(seen, place(moved(here, next_place(seen, at))))
 }
 
 // A part of the caller's text, by way of the reader at its start.
@@ -85,24 +119,7 @@ pub fn part_from<'a>(text: &'a [u8], start: usize, len: usize) -> &'a [u8]
     part(reader_at(text, start), start, len)
 }
 
-// Where the value of the line at `at` stands, as lines::reading::find_value says it, by way of the reader.
-pub fn find_value(text: &[u8], at: usize, key: &[u8]) -> ValueAt
-    ensures { λ r. ⌜ r ≡ valueAt (now (text .entry)) at (now (key .entry)) ⌝ }
-{
-    let Line::Has { len, next } = line_from(text, at) else {
-        return ValueAt::Refused;
-    };
-    if !begins_with(part_from(text, at, len), key) {
-        return ValueAt::Refused;
-    }
-    ValueAt::At {
-        start: at + key.len(),
-        len: len - key.len(),
-        next,
-    }
-}
-
-// The number on the line at `at`, which has the key, as lines::reading::number_field says it, by way of the reader.
+// The number on the line at `at`, which has the key.
 pub fn number_field(text: &[u8], at: usize, key: &[u8]) -> NumberAt
     ensures { λ r. ⌜ r ≡ numberAt (now (text .entry)) at (now (key .entry)) ⌝ }
 {

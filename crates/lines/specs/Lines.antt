@@ -111,6 +111,13 @@ lineLength (b ∷ s) =
     let longer = suc (lineLength s) in
     if b =? LF then 0 else longer
 
+-- how many lines are complete: one for each LF
+unfoldable pub linesIn : List ℕ → ℕ
+linesIn [] = 0
+linesIn (b ∷ s) =
+    let later = linesIn s in
+    if b =? LF then suc later else later
+
 -- the line begins with the key
 unfoldable pub begins : List ℕ → List ℕ → Bool
 begins [] s = true

@@ -21,6 +21,10 @@ use Rattle.lines.specs.declared.reading.NumberAt.the-variants.{Got, Bad}
 abbrev pub lineAfter : List ℕ → ℕ → ℕ
 lineAfter text at = at + lineLength (drop at text) + 1
 
+-- the line at `at`, without the LF that closes it
+unfoldable pub lineHere : List ℕ → ℕ → List ℕ
+lineHere text at = take (lineLength (drop at text)) (drop at text)
+
 -- where the value of the line at `at` stands: the line is closed by LF and begins with the key
 unfoldable pub valueAt : List ℕ → ℕ → List ℕ → ValueAt
 valueAt text at key =

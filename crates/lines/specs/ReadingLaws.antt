@@ -14,8 +14,8 @@ use lib.Dec.{eqb}
 use borrow.Author.Tests.{eqb-true, eqb-false, eq-eqb, ne-eqb, le-ltb, lt-ltb, ltb-true}
 use Rattle.answers.specs.declared.Answer.the-variants.{Form}
 use Rattle.words.specs.Words.{if_then_else_, _<?_}
-use Rattle.lines.specs.Lines.{bytes, got, refused, lineLength, begins, sameBytes, number, numberFrom, valueIn, field}
-use Rattle.lines.specs.Reading.{lineAfter, valueAt, numberRead, numberThen, numberAt, standing}
+use Rattle.lines.specs.Lines.{bytes, LF, got, refused, lineLength, begins, sameBytes, number, numberFrom, valueIn, field}
+use Rattle.lines.specs.Reading.{lineAfter, lineHere, valueAt, numberRead, numberThen, numberAt, standing}
 use Rattle.lines.specs.declared.reading.ValueAt.the-variants.{At, Refused}
 use Rattle.lines.specs.declared.reading.Number.{Number}
 use Rattle.lines.specs.declared.reading.NumberAt.the-variants.{Got, Bad}
@@ -62,37 +62,52 @@ same-begins [] (b ∷ word) h = absurd (omega arith)
 same-begins (a ∷ s) [] h = absurd (omega arith)
 same-begins (a ∷ s) (b ∷ word) h = rw (eqb-turned b a, same-begins s word (omega arith))
 
--- ---- where a value stands: `end` is the place of the LF, or the text's end
+-- ---- where a value stands: the line has the key, and `end` is the place of the LF after it, or the text's end
 
-module _ (t : List ℕ) (at : ℕ) (key : List ℕ) (end : ℕ) (ends : end ≡ at + lineLength (drop at t)) where
-  pub value-unclosed : length t ≤ end → valueAt t at key ≡ Refused
-  unfolding valueAt
-  value-unclosed h = rw (le-ltb (lineLength (drop at t)) (length (drop at t)) (omega (arith, length-drop at t)))
+-- what is left of a line behind its key is as long as the line without the key
+pub key-length : (key s : List ℕ) → begins key (take (lineLength s) s) ≡ true → lineLength s ≡ length key + lineLength (drop (length key) s)
+unfolding begins lineLength
+key-length [] s h = omega arith
+key-length (k ∷ key) [] h = absurd (differ h)
+key-length (k ∷ key) (b ∷ s) h = inner (eqb b LF) (λ e. key-length key s e) h
+  where
+    inner : (z : Bool) → (begins key (take (lineLength s) s) ≡ true → lineLength s ≡ length key + lineLength (drop (length key) s))
+        → begins (k ∷ key) (take (if z then 0 else suc (lineLength s)) (b ∷ s)) ≡ true
+        → (if z then 0 else suc (lineLength s)) ≡ suc (length key) + lineLength (drop (length key) s)
+    inner true on e = absurd (differ e)
+    inner false on e = omega (arith, on (and-right (eqb k b) (begins key (take (lineLength s) s)) e))
 
-  module _ (h : end < length t) where
-    same : end - at ≡ lineLength (drop at t)
-    same = omega arith
+module _ (t : List ℕ) (at : ℕ) (key : List ℕ) where
+  pub value-other : begins key (lineHere t at) ≡ false → valueAt t at key ≡ Refused
+  unfolding valueAt lineHere
+  value-other b = rw b (either (lineLength (drop at t) <? length (drop at t)))
+    where
+      either : (z : Bool) → (if z && false then At (at + length key) (lineLength (drop at t) - length key) (lineAfter t at) else Refused) ≡ Refused
+      either true = refl
+      either false = refl
 
-    closed : (lineLength (drop at t) <? length (drop at t)) ≡ true
-    closed = lt-ltb (lineLength (drop at t)) (length (drop at t)) (omega (arith, length-drop at t))
+  module _ (b : begins key (lineHere t at) ≡ true) where
+    -- the key is within the text
+    pub key-fits : length key ≤ length t - at
+    unfolding lineHere
+    key-fits = omega (arith, simp (length-take, length-drop) at (begins-length key (lineHere t at) b))
 
-    pub value-other : begins key (take (end - at) (drop at t)) ≡ false → valueAt t at key ≡ Refused
-    unfolding valueAt
-    value-other b =
-        let b′ : begins key (take (lineLength (drop at t)) (drop at t)) ≡ false = rw same at b in
-        rw (closed, b′)
+    module _ (end : ℕ) (ends : end ≡ at + length key + lineLength (drop (at + length key) t)) where
+      same : end ≡ at + lineLength (drop at t)
+      unfolding lineHere
+      same = omega (arith, rw drop-drop at (key-length key (drop at t) b))
 
-    module _ (b : begins key (take (end - at) (drop at t)) ≡ true) where
-      pub key-fits : at + length key ≤ end
-      key-fits = omega (arith, simp (length-take, length-drop) at (begins-length key (take (end - at) (drop at t)) b))
-
-      pub value-found : valueAt t at key ≡ At (at + length key) (end - (at + length key)) (end + 1)
+      pub value-unclosed : length t ≤ end → valueAt t at key ≡ Refused
       unfolding valueAt
-      value-found =
-          let b′ : begins key (take (lineLength (drop at t)) (drop at t)) ≡ true = rw same at b in
-          let n : lineLength (drop at t) - length key ≡ end - (at + length key) = omega arith in
-          let m : lineAfter t at ≡ end + 1 = omega arith in
-          rw (closed, b′, n, m)
+      value-unclosed h = rw (le-ltb (lineLength (drop at t)) (length (drop at t)) (omega (arith, same, length-drop at t)))
+
+      pub value-found : end < length t → valueAt t at key ≡ At (at + length key) (end - (at + length key)) (end + 1)
+      unfolding valueAt lineHere
+      value-found h =
+          let closed : (lineLength (drop at t) <? length (drop at t)) ≡ true = lt-ltb (lineLength (drop at t)) (length (drop at t)) (omega (arith, same, length-drop at t)) in
+          let n : lineLength (drop at t) - length key ≡ end - (at + length key) = omega (arith, same) in
+          let m : lineAfter t at ≡ end + 1 = omega (arith, same) in
+          rw (closed, b, n, m)
 
 -- ---- a part that runs past the end
 

@@ -1,10 +1,10 @@
-// Lines read: on a text and a place in it, the value of a `key=value` line and the place of the next line.
-// Every function answers every text and every place. What the lines of a plan mean is in plan_text.
+// Lines read: on a text and a place in it, the key of a `key=value` line, where the line ends, and what a value means.
+// Every function answers every text and every place. The reader that goes from line to line is in line_reader, the lines of a plan in plan_text.
 ghost use mathlib.Core.Path.{_≡_};
 ghost use Prim.Native.Nat.{_+_, _≤_};
 ghost use lib.ListN.{length, take, drop};
 ghost use Rattle.lines.specs.Lines.{lineLength, begins, sameBytes, number, numberFrom};
-ghost use Rattle.lines.specs.Reading.{valueAt, numberRead, numberAt};
+ghost use Rattle.lines.specs.Reading.{lineHere, numberRead};
 
 // Where a line's value stands: its first byte, its length, and the first byte of the next line.
 pub enum ValueAt {
@@ -27,7 +27,7 @@ pub enum NumberAt {
     Bad,
 }
 
-// The place of the LF that closes the line at `at`; the end of the text where none does.
+// The place of the LF that closes the line at `at`; the end of the text where none does. A place at or past the end is its own answer.
 pub fn line_end(text: &[u8], at: usize) -> usize
     ensures { λ r. ⌜ r ≡ at + lineLength (drop at (now (text .entry))) ⌝ }
 {
@@ -39,6 +39,29 @@ pub fn line_end(text: &[u8], at: usize) -> usize
         i += 1;
     }
     i
+}
+
+// The line at `at` begins with the key. No more of the line is looked at than the key is long.
+pub fn key_at(text: &[u8], at: usize, key: &[u8]) -> bool
+    ensures { λ r. ⌜ r ≡ begins (now (key .entry)) (lineHere (now (text .entry)) at) ⌝ }
+{
+    let mut p = at;
+    let mut i = 0;
+    while i < key.len() {
+        if p >= text.len() {
+            return false;
+        }
+        let b = text[p];
+        if b == b'\n' {
+            return false;
+        }
+        if b != key[i] {
+            return false;
+        }
+        p += 1;
+        i += 1;
+    }
+    true
 }
 
 // The line begins with the key.
@@ -66,25 +89,6 @@ pub fn same_bytes(s: &[u8], word: &[u8]) -> bool
         return false;
     }
     begins_with(s, word)
-}
-
-// Where the value of the line at `at` stands; refused where the line is missing, is not closed or has another key.
-pub fn find_value(text: &[u8], at: usize, key: &[u8]) -> ValueAt
-    ensures { λ r. ⌜ r ≡ valueAt (now (text .entry)) at (now (key .entry)) ⌝ }
-{
-    let end = line_end(text, at);
-    if end >= text.len() {
-        return ValueAt::Refused;
-    }
-    if !begins_with(&text[at..end], key) {
-        return ValueAt::Refused;
-    }
-    let start = at + key.len();
-    ValueAt::At {
-        start,
-        len: end - start,
-        next: end + 1,
-    }
 }
 
 // The part of the caller's text that is `len` bytes from `start` on; past the end it is the shorter part, or none.
@@ -143,17 +147,4 @@ pub fn read_number(s: &[u8]) -> Number
         }
     }
     digits_number(s)
-}
-
-// The number on the line at `at`, which has the key.
-pub fn number_field(text: &[u8], at: usize, key: &[u8]) -> NumberAt
-    ensures { λ r. ⌜ r ≡ numberAt (now (text .entry)) at (now (key .entry)) ⌝ }
-{
-    match find_value(text, at, key) {
-        ValueAt::At { start, len, next } => match read_number(value(text, start, len)) {
-            Number::Is(number) => NumberAt::Got(number, next),
-            Number::Not => NumberAt::Bad,
-        },
-        ValueAt::Refused => NumberAt::Bad,
-    }
 }

@@ -1,18 +1,19 @@
--- How much of a text decides its plan: with `enough` bytes in hand the answer is the one for any longer text.
+-- How much of a text decides its plan: with `enough` bytes in hand, or with the line at fault complete, a refusal is the one for any longer text.
 use Prim.Native.Nat.{ℕ, _+_, _*_, _≤_, _<_}
 use native.Mathlib.Omega.{arith}
 use mathlib.Core.Path.{_≡_, refl, sym, ap, _∙_}
-use mathlib.Core.Bool.{Bool, true, false, false≢true}
+use mathlib.Core.Bool.{Bool, true, false, _||_, false≢true}
 use mathlib.Core.List.{List, [], _∷_, _++_}
 use mathlib.Core.Option.{Option, none, some}
 use lib.ListN.{length, length-append}
-use borrow.Author.Tests.{eq-eqb, ne-eqb, leb-true}
+use borrow.Author.Tests.{eq-eqb, ne-eqb, leb-true, leb-false}
 use Rattle.words.specs.Words.{_≤?_}
 use Rattle.words.specs.Cases.{by-test, both-hold}
 use Rattle.answers.specs.declared.Answer.{Answer}
 use Rattle.answers.specs.declared.Answer.the-variants.{Form, SlotLimit, JobLimit}
-use Rattle.answers.specs.Answer.{accepted, _unless_}
-use Rattle.lines.specs.Lines.{bytes, number, sameBytes, Cursor, Read, got, refused, Reader, give, onward, _>>=_, must, many, field, nothingAfter}
+use Rattle.answers.specs.Answer.{accepted, _unless_, firstPlace}
+use Rattle.answers.specs.RefusalLaws.{neither-true}
+use Rattle.lines.specs.Lines.{bytes, number, sameBytes, Cursor, Read, got, refused, Reader, give, onward, _>>=_, must, many, linesIn, field, nothingAfter}
 use Rattle.lines.specs.RoundLaws.{cursor, unread}
 use Rattle.lines.specs.ReadingLaws.{number-long, same-length}
 use Rattle.lines.specs.DecidedLaws.{Decided, decided-more, give-decided, must-decided, then-decided, many-decided, field-decided}
@@ -50,6 +51,7 @@ within {A} b answer rest d = by-test (accepted answer) passes stops
     stops h = record {
       goes = λ l s u a m r e. unread (rw h at e);
       stays = λ l s u x le e. rw h (rw h at e);
+      closes = λ l s u x le e. rw h (rw h at e);
     }
 
 limited : (refusal : Answer) (limit n : ℕ) → accepted refusal ≡ false → accepted (refusal unless oneTo limit n) ≡ true → n ≤ limit
@@ -86,6 +88,27 @@ plan-goes s u p m r e = plan-decided .goes 1 s u p m r e .0
 -- with enough bytes in hand a refusal is final
 pub plan-stays : (s u : List ℕ) (x : Answer) → enough ≤ length s → nextPlan (startOf s) ≡ refused x → nextPlan (startOf (s ++ u)) ≡ refused x
 plan-stays s u x le e = plan-decided .stays 1 s u x le e
+
+-- and so is a refusal at a line that is complete
+pub plan-closes : (s u : List ℕ) (x : Answer) → firstPlace x ≤ linesIn s → nextPlan (startOf s) ≡ refused x → nextPlan (startOf (s ++ u)) ≡ refused x
+plan-closes s u x le e = plan-decided .closes 1 s u x (omega arith) e
+
+-- the text in hand settles its refusal: the line at fault is complete, or enough bytes are in hand
+unfoldable pub isFinal : List ℕ → Answer → Bool
+isFinal s x = (firstPlace x ≤? linesIn s) || (enough ≤? length s)
+
+-- what is refused so stays refused with more text
+pub final-stays : (s u : List ℕ) (x : Answer) → isFinal s x ≡ true → nextPlan (startOf s) ≡ refused x → nextPlan (startOf (s ++ u)) ≡ refused x
+unfolding isFinal
+final-stays s u x h e =
+    by-test (firstPlace x ≤? linesIn s)
+    (λ c. plan-closes s u x (leb-true (firstPlace x) (linesIn s) c) e)
+    (λ c. plan-stays s u x (leb-true enough (length s) (rw c at h)) e)
+
+-- while more text may yet make a plan, fewer than enough bytes are in hand
+pub open-short : (s : List ℕ) (x : Answer) → isFinal s x ≡ false → length s < enough
+unfolding isFinal
+open-short s x h = leb-false enough (length s) (neither-true (firstPlace x ≤? linesIn s) (enough ≤? length s) h .1)
 
 -- with one byte more than enough, so is the answer for the whole text: what follows the plan is extra in any case
 pub text-stays : (s u : List ℕ) → enough < length s → readPlan (s ++ u) ≡ readPlan s

@@ -7,13 +7,18 @@ use plan::Job;
 use plan::Level;
 use plan::Plan;
 ghost use mathlib.Core.Path.{_≡_};
-ghost use Prim.Native.Nat.{_≤_};
-ghost use lib.ListN.{length};
+ghost use Prim.Native.Nat.{_+_, _*_, _≤_};
+ghost use lib.ListN.{length, replicate};
 ghost use Rattle.plan.specs.Limits.{maxSlots, maxJobs};
 ghost use Rattle.lines.specs.Lines.{bytes};
 ghost use Rattle.lines.specs.Reading.{numberAt, standing};
-ghost use Rattle.plan_text.specs.Read.{levelIn, readPlan};
-ghost use Rattle.plan_text.specs.Reader.{levelRead, levelAt, JobHere, JobsHere, SlotsHere, nextLines, refusedPrefix, refusedRead, prefixOf, planPrefix};
+ghost use Rattle.plan_text.specs.Read.{levelIn, nextPlan, readPlan};
+ghost use Rattle.plan_text.specs.Reader.{levelRead, levelAt, JobHere, JobsHere, SlotsHere, nextLines, lastLine, numbered, refusedParts, PartsHere, refusedPrefix, refusedRead, planFrom, planPrefix};
+
+// The lines of the largest plan, and the last line that has a number.
+const PLAN_LINES: usize = 2 + 5 * plan::JOBS + plan::SLOTS;
+
+const LAST_LINE: usize = 65535;
 
 enum LevelName {
     Is(Level),
@@ -32,7 +37,7 @@ enum JobAt {
     Bad(u16),
 }
 
-// The plan at the start of a text, the first byte after its last line and the number of the line there;
+// The plan that was read, the first byte after its last line and the number of the line there;
 // or a refusal beside the blank plan, place 0 and line 0.
 pub struct PlanPrefix {
     pub answer: Answer,
@@ -48,11 +53,21 @@ struct JobsRead {
     next: usize,
 }
 
-// The slots and the first byte after their lines; beside a refusal the array is not used.
+// What the lines of the slots say, and the first byte after them; the slots stand in the table that was lent.
 struct SlotsRead {
     answer: Answer,
-    table: [u16; plan::SLOTS],
     next: usize,
+}
+
+// What the lines of a plan say but for the slots, the first byte after the last line and the number of the line there.
+// Beside a refusal only the answer is used.
+struct Parts {
+    answer: Answer,
+    slots: u16,
+    jobs: u16,
+    job: [Job; plan::JOBS],
+    next: usize,
+    line: u16,
 }
 
 fn level_in(s: &[u8]) -> LevelName
@@ -109,7 +124,7 @@ fn hi_field(text: &[u8], at: usize) -> NumberAt
 
 // The job whose first line is at `at` and has the number `line`.
 fn read_job(text: &[u8], at: usize, line: u16) -> JobAt
-    requires { ⌜ line ≤ 1000 ⌝ }
+    requires { ⌜ line + 5 ≤ lastLine ⌝ }
     ensures { λ r. ⌜ JobHere (now (text .entry)) at line r ⌝ }
 {
     let LevelAt::Got(level, a) = level_field(text, at) else {
@@ -140,7 +155,7 @@ fn read_job(text: &[u8], at: usize, line: u16) -> JobAt
 // The jobs, the first of whose lines is at `at` and has the number `line`.
 fn read_jobs(text: &[u8], at: usize, count: usize, line: u16) -> JobsRead
     requires { ⌜ count ≤ maxJobs ⌝ }
-    requires { ⌜ line ≤ 100 ⌝ }
+    requires { ⌜ line + 5 * count ≤ lastLine ⌝ }
     requires { ⌜ at ≤ length (now text) ⌝ }
     ensures { λ r. ⌜ JobsHere (now (text .entry)) at line count r ⌝ }
 {
@@ -179,14 +194,20 @@ fn slot_field(text: &[u8], at: usize) -> NumberAt
     line_reader::number_field(text, at, b"slot=")
 }
 
-// The slots, the first of whose lines is at `at` and has the number `line`.
-fn read_slots(text: &[u8], at: usize, count: usize, line: u16) -> SlotsRead
+// The slots, the first of whose lines is at `at` and has the number `line`, into the table, which is 0 on entry.
+fn read_slots(
+    text: &[u8],
+    at: usize,
+    count: usize,
+    line: u16,
+    table: &mut [u16; plan::SLOTS],
+) -> SlotsRead
     requires { ⌜ count ≤ maxSlots ⌝ }
-    requires { ⌜ line ≤ 1000 ⌝ }
+    requires { ⌜ line + count ≤ lastLine ⌝ }
     requires { ⌜ at ≤ length (now text) ⌝ }
-    ensures { λ r. ⌜ SlotsHere (now (text .entry)) at line count r ⌝ }
+    requires { ⌜ now table ≡ replicate maxSlots 0 ⌝ }
+    ensures { λ r. ⌜ SlotsHere (now (text .entry)) at line count r (now (table .exit)) ⌝ }
 {
-    let mut table = [0u16; plan::SLOTS];
     let mut next = at;
     let mut l = line;
     let mut t = 0;
@@ -194,7 +215,6 @@ fn read_slots(text: &[u8], at: usize, count: usize, line: u16) -> SlotsRead
         let NumberAt::Got(entry, after) = slot_field(text, next) else {
             return SlotsRead {
                 answer: Answer::Form(l),
-                table,
                 next: 0,
             };
         };
@@ -205,9 +225,93 @@ fn read_slots(text: &[u8], at: usize, count: usize, line: u16) -> SlotsRead
     }
     SlotsRead {
         answer: Answer::Accepted,
-        table,
         next,
     }
+}
+
+fn no_parts(answer: Answer) -> Parts
+    ensures { λ r. ⌜ r ≡ refusedParts answer ⌝ }
+{
+    let blank = plan::blank_job();
+    let job = [blank; plan::JOBS];
+    Parts {
+        answer,
+        slots: 0,
+        jobs: 0,
+        job,
+        next: 0,
+        line: 0,
+    }
+}
+
+// The lines of the jobs and of the slots, the first of which is at `at` and has the number `line`.
+fn read_lines(
+    text: &[u8],
+    at: usize,
+    line: u16,
+    slots: u16,
+    jobs: u16,
+    table: &mut [u16; plan::SLOTS],
+) -> Parts
+    requires { ⌜ slots ≤ maxSlots ⌝ }
+    requires { ⌜ jobs ≤ maxJobs ⌝ }
+    requires { ⌜ line + 5 * maxJobs + maxSlots ≤ lastLine ⌝ }
+    requires { ⌜ at ≤ length (now text) ⌝ }
+    requires { ⌜ now table ≡ replicate maxSlots 0 ⌝ }
+    ensures { λ r. ⌜ PartsHere (now (text .entry)) r (now (table .exit)) (nextLines slots jobs (standing (now (text .entry)) at line)) ⌝ }
+{
+    let j = read_jobs(text, at, jobs as usize, line);
+    let job = j.job;
+    let answer = j.answer;
+    if !answers::is_accepted(answer) {
+        return no_parts(answer);
+    }
+    let first = line + 5 * jobs;
+    let s = read_slots(text, j.next, slots as usize, first, table);
+    let answer = s.answer;
+    Parts {
+        answer,
+        slots,
+        jobs,
+        job,
+        next: s.next,
+        line: first + slots,
+    }
+}
+
+fn slots_field(text: &[u8], at: usize) -> NumberAt
+    ensures { λ r. ⌜ r ≡ numberAt (now (text .entry)) at (bytes "slots=") ⌝ }
+{
+    line_reader::number_field(text, at, b"slots=")
+}
+
+fn jobs_field(text: &[u8], at: usize) -> NumberAt
+    ensures { λ r. ⌜ r ≡ numberAt (now (text .entry)) at (bytes "jobs=") ⌝ }
+{
+    line_reader::number_field(text, at, b"jobs=")
+}
+
+// The lines of a plan, the first of which is at `at` and has the number `line`; the slots go into the table, which is 0 on entry.
+fn read_parts(text: &[u8], at: usize, line: u16, table: &mut [u16; plan::SLOTS]) -> Parts
+    requires { ⌜ line + 2 + 5 * maxJobs + maxSlots ≤ lastLine ⌝ }
+    requires { ⌜ now table ≡ replicate maxSlots 0 ⌝ }
+    ensures { λ r. ⌜ PartsHere (now (text .entry)) r (now (table .exit)) (nextPlan (standing (now (text .entry)) at line)) ⌝ }
+{
+    let NumberAt::Got(slots, second) = slots_field(text, at) else {
+        return no_parts(Answer::Form(line));
+    };
+    let limit = plan::slot_limit(slots);
+    if !answers::is_accepted(limit) {
+        return no_parts(limit);
+    }
+    let NumberAt::Got(jobs, third) = jobs_field(text, second) else {
+        return no_parts(Answer::Form(line + 1));
+    };
+    let limit = plan::job_limit(jobs);
+    if !answers::is_accepted(limit) {
+        return no_parts(limit);
+    }
+    read_lines(text, third, line + 2, slots, jobs, table)
 }
 
 fn refused(answer: Answer) -> PlanPrefix
@@ -222,70 +326,46 @@ fn refused(answer: Answer) -> PlanPrefix
     }
 }
 
-// The lines of the jobs and of the slots, the first of which is line 3 at `at`.
-fn read_lines(text: &[u8], at: usize, slots: u16, jobs: u16) -> PlanPrefix
-    requires { ⌜ slots ≤ maxSlots ⌝ }
-    requires { ⌜ jobs ≤ maxJobs ⌝ }
-    requires { ⌜ at ≤ length (now text) ⌝ }
-    ensures { λ r. ⌜ r ≡ prefixOf (now (text .entry)) (nextLines slots jobs (standing (now (text .entry)) at 3)) ⌝ }
+// Every line of a plan that starts at this line has a number.
+fn has_numbers(line: u16) -> bool
+    ensures { λ r. ⌜ r ≡ numbered line ⌝ }
 {
-    let j = read_jobs(text, at, jobs as usize, 3);
-    let job = j.job;
-    let answer = j.answer;
+    plan::wide(line) + PLAN_LINES <= LAST_LINE
+}
+
+// The plan at a place of the text, which is the start of that line, whatever follows the plan. Every place and line is answered:
+// past the text's end the line is missing, and where its lines would pass the last number the plan is refused at its first.
+pub fn plan_from(text: &[u8], at: usize, line: u16) -> PlanPrefix
+    ensures { λ r. ⌜ r ≡ planFrom (now (text .entry)) at line ⌝ }
+{
+    if !has_numbers(line) {
+        return refused(Answer::Form(line));
+    }
+    let mut table = [0u16; plan::SLOTS];
+    let p = read_parts(text, at, line, &mut table);
+    let answer = p.answer;
     if !answers::is_accepted(answer) {
         return refused(answer);
     }
-    let line = 3 + 5 * jobs;
-    let s = read_slots(text, j.next, slots as usize, line);
-    let table = s.table;
-    let answer = s.answer;
-    if !answers::is_accepted(answer) {
-        return refused(answer);
-    }
+    let job = p.job;
     PlanPrefix {
         answer: Answer::Accepted,
         plan: Plan {
-            slots,
-            jobs,
+            slots: p.slots,
+            jobs: p.jobs,
             job,
             table,
         },
-        next: s.next,
-        line: line + slots,
+        next: p.next,
+        line: p.line,
     }
-}
-
-fn slots_field(text: &[u8]) -> NumberAt
-    ensures { λ r. ⌜ r ≡ numberAt (now (text .entry)) 0 (bytes "slots=") ⌝ }
-{
-    line_reader::number_field(text, 0, b"slots=")
-}
-
-fn jobs_field(text: &[u8], at: usize) -> NumberAt
-    ensures { λ r. ⌜ r ≡ numberAt (now (text .entry)) at (bytes "jobs=") ⌝ }
-{
-    line_reader::number_field(text, at, b"jobs=")
 }
 
 // The plan at the start of the text, whatever follows it.
 pub fn plan_prefix(text: &[u8]) -> PlanPrefix
     ensures { λ r. ⌜ r ≡ planPrefix (now (text .entry)) ⌝ }
 {
-    let NumberAt::Got(slots, second) = slots_field(text) else {
-        return refused(Answer::Form(1));
-    };
-    let limit = plan::slot_limit(slots);
-    if !answers::is_accepted(limit) {
-        return refused(limit);
-    }
-    let NumberAt::Got(jobs, third) = jobs_field(text, second) else {
-        return refused(Answer::Form(2));
-    };
-    let limit = plan::job_limit(jobs);
-    if !answers::is_accepted(limit) {
-        return refused(limit);
-    }
-    read_lines(text, third, slots, jobs)
+    plan_from(text, 0, 1)
 }
 
 fn no_plan(answer: Answer) -> PlanRead
@@ -302,7 +382,8 @@ fn no_plan(answer: Answer) -> PlanRead
 pub fn read_plan(text: &[u8]) -> PlanRead
     ensures { λ r. ⌜ r ≡ readPlan (now (text .entry)) ⌝ }
 {
-    let p = plan_prefix(text);
+    let mut table = [0u16; plan::SLOTS];
+    let p = read_parts(text, 0, 1, &mut table);
     let answer = p.answer;
     if !answers::is_accepted(answer) {
         return no_plan(answer);
@@ -310,9 +391,14 @@ pub fn read_plan(text: &[u8]) -> PlanRead
     if p.next < text.len() {
         return no_plan(Answer::Form(p.line));
     }
-    let plan = p.plan;
+    let job = p.job;
     PlanRead {
         answer: Answer::Accepted,
-        plan,
+        plan: Plan {
+            slots: p.slots,
+            jobs: p.jobs,
+            job,
+            table,
+        },
     }
 }

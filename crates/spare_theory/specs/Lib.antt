@@ -5,3 +5,4 @@ pub mod CountLaws
 pub mod TableLaws
 pub mod ChainLaws
 pub mod SpareLaws
+pub mod WorseLaws

@@ -1,9 +1,11 @@
 -- The acceptance promise, as statements: A1 (check 8) and A2 (check 9) of a plan in order. Definitions only.
-use Prim.Native.Nat.{ℕ, _-_, _≤_, _<_}
+use Prim.Native.Nat.{ℕ, suc, _+_, _-_, _≤_, _<_}
+use mathlib.Core.Path.{_≡_}
 use mathlib.Core.Bool.{true}
 use Rattle.words.specs.Words.{_<?_}
 use Rattle.windows.specs.Windows.{Windows, within, InTime}
 use Rattle.plan.specs.declared.Plan.{Plan}
+use Rattle.plan.specs.Plan.{isHi, tableAt}
 use Rattle.spares.specs.Spares.{hiLeft}
 use Rattle.well_formed.specs.InOrder.{jobAt, tab}
 
@@ -26,3 +28,11 @@ A1 p = (a b : ℕ) → within (windowsOf p) (hiOf p) a b ≤ b - a
 -- A2: for all t < N and e, what may still be asked at border t along the table by the jobs with d <= e sums to e - t at most
 abbrev pub A2 : Plan → Type 0
 A2 p = (t : ℕ) → t < p .slots → InTime (windowsOf p) t (asked p t)
+
+-- slot t is the lo-th table slot of a HI job at place k: along the table the job ends in it
+abbrev pub EndsIn : Plan → ℕ → ℕ → Type 0
+EndsIn p t k = (isHi (jobAt p k) ≡ true) × (tableAt p t ≡ suc k) × (tab p k t + 1 ≡ jobAt p k .lo)
+
+-- no HI job ends in a slot from border a to border b
+abbrev pub NoEnd : Plan → ℕ → ℕ → Type 0
+NoEnd p a b = (t k : ℕ) → a ≤ t → t < b → k < p .jobs → EndsIn p t k → ⊥

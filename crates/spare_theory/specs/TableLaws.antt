@@ -62,14 +62,18 @@ module _ (p : Plan) where
     asked-over : (t k : ℕ) → k < p .jobs → p .slots ≤ t → asked p t k ≡ 0
     asked-over t k l h = ⊎-elim (λ w. absurd (omega (arith, w .1, ok .full k l, tab-mono p k (p .slots) t h))) (λ w. w) (asked-case t k)
 
+    -- so all is in time there
+    pub past-in-time : (t : ℕ) → p .slots ≤ t → InTime (windowsOf p) t (asked p t)
+    unfolding dueBy
+    past-in-time t h e = omega (arith, total-none (p .jobs) (dueAt (windowsOf p) (asked p t) e) (λ k l. gate-none (jobAt p k .deadline) e (asked p t k) (asked-over t k l h)))
+
     -- A2 at every border
     pub a2-all : A2 p → (t : ℕ) → InTime (windowsOf p) t (asked p t)
-    unfolding dueBy
-    a2-all a2 t e = go (decLe (p .slots) t)
+    a2-all a2 t = go (decLe (p .slots) t)
       where
-        go : Dec (p .slots ≤ t) → dueBy (windowsOf p) (asked p t) e ≤ e - t
-        go (no q) = a2 t (omega arith) e
-        go (yes q) = omega (arith, total-none (p .jobs) (dueAt (windowsOf p) (asked p t) e) (λ k l. gate-none (jobAt p k .deadline) e (asked p t k) (asked-over t k l q)))
+        go : Dec (p .slots ≤ t) → InTime (windowsOf p) t (asked p t)
+        go (no q) = a2 t (omega arith)
+        go (yes q) = past-in-time t q
 
     -- work that is at most what may be asked at border t is in time
     pub asked-in-time : A2 p → (t : ℕ) (left : ℕ → ℕ) → NoMore (windowsOf p) left (asked p t) → InTime (windowsOf p) t left

@@ -2,16 +2,16 @@
 use answers::Answer;
 use libc::STDOUT_FILENO;
 
-pub fn words(s: &[u8]) {
+pub(crate) fn words(s: &[u8]) {
     io::write_all(STDOUT_FILENO, s);
 }
 
-pub fn number(n: usize) {
+pub(crate) fn number(n: usize) {
     io::print_decimal(STDOUT_FILENO, n as u64);
 }
 
 // `name: number,place`
-pub fn answer(name: &[u8], a: Answer) {
+pub(crate) fn answer(name: &[u8], a: Answer) {
     words(name);
     words(b": ");
     number(answers::number_of(a) as usize);

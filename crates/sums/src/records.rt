@@ -33,7 +33,7 @@ fn written(name: &[u8], p: Plan, out: &mut [u8]) {
     }
 }
 
-pub fn limits() {
+pub(crate) fn limits() {
     let mut out = [b'.'; 100];
     written(b"write N = 0", small(0), &mut out);
     written(b"write N = 513", small(513), &mut out);
@@ -44,7 +44,7 @@ pub fn limits() {
     written(b"write n = 33", p, &mut out);
 }
 
-pub fn large_numbers() {
+pub(crate) fn large_numbers() {
     let mut out = [b'.'; 100];
     let mut p = small(2);
     p.job[0].hi = 10000;
@@ -57,7 +57,7 @@ pub fn large_numbers() {
 }
 
 // The text of the small plan with two slots has 69 bytes.
-pub fn room() {
+pub(crate) fn room() {
     let mut none: [u8; 0] = [];
     written(b"write into 0 bytes", small(2), &mut none);
     let mut short = [b'.'; 68];

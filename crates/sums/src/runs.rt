@@ -23,7 +23,7 @@ fn stepped(name: &[u8], r: Run, slot: u16, kind: Kind) -> Run {
 }
 
 // A report for slot 2 at t = 1 is refused 12 at 1, and slot 1 can still be reported.
-pub fn out_of_turn() {
+pub(crate) fn out_of_turn() {
     let p = plan_a();
     let started = executive::start(p);
     let answer = started.answer;
@@ -35,7 +35,7 @@ pub fn out_of_turn() {
     stepped(b"slot 2 end", d, 2, Kind::End);
 }
 
-pub fn incoherent() {
+pub(crate) fn incoherent() {
     let p = plan_a();
     let started = executive::start(p);
     let r = started.run;

@@ -21,7 +21,7 @@ fn file(path: &[u8]) {
     text(path, &buffer[..n]);
 }
 
-pub fn limits() {
+pub(crate) fn limits() {
     text(b"empty text", b"");
     text(b"slots=08", b"slots=08\n");
     text(b"slots=0", b"slots=0\njobs=1\n");
@@ -36,7 +36,7 @@ pub fn limits() {
     file(b"digits.plan");
 }
 
-pub fn bad_numbers() {
+pub(crate) fn bad_numbers() {
     text(b"five digits", b"slots=00008\n");
     text(b"five digits, no zero", b"slots=10000\n");
     text(b"plus sign", b"slots=+8\n");
@@ -48,7 +48,7 @@ pub fn bad_numbers() {
     text(b"zero twice", b"slots=4\njobs=00\n");
 }
 
-pub fn bad_lines() {
+pub(crate) fn bad_lines() {
     text(b"CRLF", b"slots=8\r\njobs=2\r\n");
     text(b"NUL", b"slots=8\n\0jobs=2\n");
     text(b"wrong key", b"slots=8\njob=2\n");
@@ -90,6 +90,6 @@ fn cuts(whole: &[u8]) {
     }
 }
 
-pub fn cut_at_every_byte() {
+pub(crate) fn cut_at_every_byte() {
     cuts(b"slots=1\njobs=1\nlevel=LO\nrelease=0\ndeadline=1\nlo=1\nhi=1\nslot=0\n");
 }

@@ -128,7 +128,7 @@ given-agree who who′ k a b h =
 
 -- ---- W8: counting
 -- of the names of n jobs a slot has one at most
-one-name : (n x : ℕ) → total n (λ k. same x (suc k)) ≤ 1
+pub one-name : (n x : ℕ) → total n (λ k. same x (suc k)) ≤ 1
 unfolding total
 one-name zero x = zero-le
 one-name (suc n) x = rw (total-last n (λ k. same x (suc k))) (go (ℕ-discrete x (suc n)) (one-name n x))

@@ -1,8 +1,8 @@
 -- `check::put_interval_lines` meets its promise. The invariant: the lines of the intervals passed stand at the start of the output.
 use borrow.Author.Needs.{needs}
 use native.Mathlib.Omega.{arith}
-use Prim.Native.Nat.{_+_, _*_, _-_, _≤_, min}
-use mathlib.Core.Path.{_≡_, sym, ap, _∙_}
+use Prim.Native.Nat.{_*_, _-_, _≤_, min}
+use mathlib.Core.Path.{_≡_, sym, ap}
 use mathlib.Core.List.{List}
 use Rattle.intervals.specs.declared.Interval.{Interval}
 use lib.ListN.{length, take}

@@ -1,12 +1,10 @@
 -- `print::put_digits` meets its promise: the digits of a tenth, and then the last one. The measure is the number.
-use Prim.Native.Nat.{ℕ, _+_, _/_, _%_, _≤_, _<_}
+use Prim.Native.Nat.{ℕ, _≤_, _<_}
 use native.Mathlib.Omega.{arith}
-use mathlib.Core.Path.{_≡_, sym, ap, _∙_}
-use lib.ListN.{length}
+use mathlib.Core.Path.{_≡_}
 use borrow.Author.Needs.{needs}
-use Rattle.lines.specs.Lines.{digits}
 use Rattle.lines.specs.WritingLaws.{digits-shorter}
-use Rattle.console.specs.Pieces.{Piece, piece-fit, piece-within, digits-twenty}
+use Rattle.console.specs.Pieces.{piece-fit, piece-within, digits-twenty}
 use Rattle.console.proofs.Digits.{digits-piece}
 use borrow.Fn.Kinds.{In}
 use borrow.Fn.PlainCycle.{Measures, is, falls, and}

@@ -5,8 +5,8 @@ use Prim.Native.Nat.{_+_, _<_, _^_}
 use mathlib.Core.Path.{_≡_}
 use mir.Facts.{toZ-ofZ}
 use mir.Syntax.{w32}
-use mir.Val.{SFits, Fits, toZ, ofZ}
-use lib.IntN.{ℤ, pos, natAbs, _+ℤ_, _-ℤ_}
+use mir.Val.{SFits, toZ, ofZ}
+use lib.IntN.{pos, natAbs, _+ℤ_, _-ℤ_}
 use lib.Dec.{T}
 use lib.Signed.{nonNeg, natAbs-le}
 use Rattle.console.proofs.Signed.{neg-size, pos-size}

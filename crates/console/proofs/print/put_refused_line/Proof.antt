@@ -1,6 +1,5 @@
 -- `print::put_refused_line` meets its promise: its pieces one after the other are the line, by the number of places.
 use native.Mathlib.Omega.{arith}
-use Rattle.lines.specs.Lines.{bytes}
 use Rattle.console.specs.Pieces.{piece-within, piece-then, piece-is}
 use Rattle.console.specs.Printed.{refused-one, refused-two}
 use borrow.Author.Needs.{needs}

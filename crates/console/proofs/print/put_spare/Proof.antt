@@ -5,7 +5,7 @@ use mathlib.Core.Path.{sym, _∙_}
 use mir.Facts.{toZ-ofZ}
 use mir.Syntax.{w32}
 use Rattle.lines.specs.Lines.{bytes}
-use Rattle.console.specs.Pieces.{Piece, piece-fit, piece-within, piece-room, piece-then, piece-is}
+use Rattle.console.specs.Pieces.{piece-fit, piece-within, piece-room, piece-then, piece-is}
 use Rattle.console.proofs.Signed.{spare-below, spare-from-zero}
 use Rattle.console.proofs.print.put_spare.Statement.{statement}
 use Rattle.console.proofs.print.put_spare.Tie as tie

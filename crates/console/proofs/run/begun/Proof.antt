@@ -1,6 +1,5 @@
 -- `run::begun` meets its promise: the run begins, or the refusal of its plan.
 use borrow.Author.Needs.{needs}
-use native.Mathlib.Omega.{arith}
 use mathlib.Core.Path.{refl, sym, _∙_}
 use borrow.Author.Tests.{not-true, not-false}
 use Rattle.console.specs.Turns.{told-is, told-quiet, started-refused, started-runs}

@@ -1,7 +1,7 @@
 -- `run::put_job_lines` meets its promise. The invariant: the lines of the jobs passed stand at the start of the output.
 use borrow.Author.Needs.{needs}
 use native.Mathlib.Omega.{arith}
-use Prim.Native.Nat.{_+_, _*_, _-_, _≤_, min}
+use Prim.Native.Nat.{_*_, _-_, _≤_, min}
 use mathlib.Core.Path.{_≡_, sym}
 use lib.ListN.{length, take}
 use Rattle.words.specs.ListLaws.{long}

@@ -1,8 +1,6 @@
 -- `run::put_rest` meets its promise: the job lines, or the refusal of the line that is not finished.
 use borrow.Author.Needs.{needs}
 use native.Mathlib.Omega.{arith}
-use mathlib.Core.Path.{refl, sym, _∙_}
-use borrow.Author.Tests.{not-true, not-false}
 use Rattle.console.specs.Pieces.{piece-within, piece-is}
 use Rattle.console.specs.Turns.{rest-none, rest-bad}
 use Rattle.console.proofs.run.put_rest.Statement.{statement}

@@ -1,8 +1,7 @@
 -- `run::put_unread` meets its promise: the refusal of the plan, or nothing.
 use borrow.Author.Needs.{needs}
 use native.Mathlib.Omega.{arith}
-use mathlib.Core.Path.{refl, sym, _∙_}
-use borrow.Author.Tests.{not-true, not-false}
+use mathlib.Core.Path.{sym, _∙_}
 use Rattle.console.specs.Pieces.{piece-none, piece-within, piece-is}
 use Rattle.console.specs.Turns.{unread-none, unread-refused}
 use Rattle.console.proofs.run.put_unread.Statement.{statement}

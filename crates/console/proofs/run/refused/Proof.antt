@@ -1,8 +1,7 @@
 -- `run::refused` meets its promise: the refused line, and a console that has stopped.
 use borrow.Author.Needs.{needs}
 use native.Mathlib.Omega.{arith}
-use mathlib.Core.Path.{refl, sym, _∙_}
-use borrow.Author.Tests.{not-true, not-false}
+use mathlib.Core.Path.{refl}
 use Rattle.console.specs.Turns.{told-line}
 use Rattle.console.proofs.run.refused.Statement.{statement}
 use Rattle.console.proofs.run.refused.Tie as tie

@@ -1,6 +1,5 @@
 -- `run::take_line` meets its promise: the wait for the line, a bad line, or the report on it.
 use borrow.Author.Needs.{needs}
-use native.Mathlib.Omega.{arith}
 use mathlib.Core.Path.{refl, sym, _∙_}
 use borrow.Author.Tests.{not-true, not-false}
 use Rattle.console.specs.Turns.{told-is, told-quiet, line-waits, line-bad, line-steps}

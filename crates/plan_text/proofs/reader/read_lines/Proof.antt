@@ -1,7 +1,8 @@
--- `reader::read_lines` meets its contract: the jobs are refused, the slots are, or both were read.
+-- `reader::read_lines` meets its contract: the jobs are refused, or they and what the lines of the slots say are handed back.
+use native.Mathlib.Omega.{arith}
 use mathlib.Core.Path.{sym, _∙_}
 use borrow.Author.Tests.{not-true, not-false}
-use Rattle.plan_text.specs.PrefixLaws.{lines-no-jobs, lines-no-slots, lines-read}
+use Rattle.plan_text.specs.PrefixLaws.{lines-no-jobs, lines-read}
 use borrow.Author.Needs.{needs}
 use Rattle.plan_text.proofs.reader.read_lines.Statement.{statement}
 use Rattle.plan_text.proofs.reader.read_lines.Tie as tie
@@ -12,58 +13,41 @@ read-jobs-requires c κs = search needs
 is-accepted-requires : tie.Need-is-accepted-requires
 is-accepted-requires c κs = search needs
 
-refused-requires : tie.Need-refused-requires
-refused-requires c κs = search needs
+no-parts-requires : tie.Need-no-parts-requires
+no-parts-requires c κs = search needs
 
 returns : tie.Need-returns
 returns c =
     let a = c .before .before in
     let j = a .before .before in
     let s = j .before .before in
-    c .refused .ensures
-    ∙ lines-no-jobs (s .args .text .now) (s .args .at) (s .args .slots) (s .args .jobs) _ _ _ (j .read-jobs .ensures)
-    (sym (a .is-accepted .ensures) ∙ not-true _ (c .before .if1 .taken))
+    rw (c .no-parts .ensures)
+    (lines-no-jobs (s .args .text .now) (s .args .at) (s .args .line) (s .args .slots) (s .args .jobs) _ _ _ (j .read-jobs .ensures) _
+    (sym (a .is-accepted .ensures) ∙ not-true _ (c .before .if1 .taken)))
 
-mul-line : tie.Need-mul-line
-mul-line c = search needs
+mul-first : tie.Need-mul-first
+mul-first c = search needs
 
-add-line : tie.Need-add-line
-add-line c = search needs
+add-first : tie.Need-add-first
+add-first c = search needs
 
 read-slots-requires : tie.Need-read-slots-requires
-read-slots-requires c κs = search needs
+read-slots-requires c κs =
+    let j = c .before .before .before .before in
+    let p = j .before .before .pre in
+    (p .0, (omega (arith, p .1 .0, p .1 .1 .0), (j .read-jobs .ensures .within, p .1 .1 .1 .1)))
 
-is-accepted-requires-2 : tie.Need-is-accepted-requires-2
-is-accepted-requires-2 c κs = search needs
-
-refused-requires-2 : tie.Need-refused-requires-2
-refused-requires-2 c κs = search needs
+add-t16 : tie.Need-add-t16
+add-t16 c = search needs
 
 returns-2 : tie.Need-returns-2
 returns-2 c =
-    let b = c .before .before in
-    let k = b .before .before in
-    let a = k .before .before in
+    let a = c .before .before .before in
     let j = a .before .before in
     let s = j .before .before in
-    c .refused2 .ensures
-    ∙ lines-no-slots (s .args .text .now) (s .args .at) (s .args .slots) (s .args .jobs) _ _ _ (j .read-jobs .ensures)
-    (sym (a .is-accepted .ensures) ∙ not-false _ (k .before .if1 .left))
-    _ _ _ (k .read-slots .ensures) (sym (b .is-accepted2 .ensures) ∙ not-true _ (c .before .if2 .taken))
-
-add-t15 : tie.Need-add-t15
-add-t15 c = search needs
-
-returns-3 : tie.Need-returns-3
-returns-3 c =
-    let b = c .before in
-    let k = b .before .before in
-    let a = k .before .before in
-    let j = a .before .before in
-    let s = j .before .before in
-    lines-read (s .args .text .now) (s .args .at) (s .args .slots) (s .args .jobs) _ _ _ (j .read-jobs .ensures)
-    (sym (a .is-accepted .ensures) ∙ not-false _ (k .before .if1 .left))
-    _ _ _ (k .read-slots .ensures) (sym (b .is-accepted2 .ensures) ∙ not-false _ (c .if2 .left))
+    lines-read (s .args .text .now) (s .args .at) (s .args .line) (s .args .slots) (s .args .jobs) _ _ _ (j .read-jobs .ensures)
+    (sym (a .is-accepted .ensures) ∙ not-false _ (c .before .before .if1 .left))
+    _ _ _ (c .read-slots .ensures)
 
 pub read-lines-spec : {M : Type 1} → statement M
 read-lines-spec =
@@ -71,13 +55,10 @@ read-lines-spec =
     (tie.spec
     read-jobs-requires
     is-accepted-requires
-    refused-requires
+    no-parts-requires
     returns
-    mul-line
-    add-line
+    mul-first
+    add-first
     read-slots-requires
-    is-accepted-requires-2
-    refused-requires-2
-    returns-2
-    add-t15
-    returns-3)
+    add-t16
+    returns-2)

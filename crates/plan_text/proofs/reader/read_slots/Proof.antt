@@ -1,8 +1,9 @@
 -- `reader::read_slots` meets its contract. The invariant: t slots stand in the table, the rest is 0, one line to each.
-use mathlib.Core.Path.{sym, _∙_}
+use mathlib.Core.Path.{_≡_, sym, _∙_}
 use Prim.Native.Nat.{_+_, _-_}
 use native.Mathlib.Omega.{arith}
 use borrow.Author.Needs.{needs}
+use lib.ListN.{replicate}
 use Rattle.plan.specs.Limits.{maxSlots}
 use Rattle.lines.specs.Lines.{number, field}
 use Rattle.lines.specs.ReadingLaws.{number-got, number-bad}
@@ -19,7 +20,10 @@ abbrev μ-loop : tie.MeasureT-loop
 μ-loop text at count line table₀ next₀ l₀ t₀ table next l t = count - t
 
 loop-holds : tie.Need-loop-holds Inv-loop μ-loop
-loop-holds c = filling-at-starts (field number "slot=") 1 maxSlots 0 _ _ _ _ (c .before .pre .1 .1)
+loop-holds c =
+    let p = c .before .pre .1 .1 in
+    let blank : c .before .args .table .now ≡ replicate maxSlots 0 = p .1 in
+    rw blank (filling-at-starts (field number "slot=") 1 maxSlots 0 _ _ _ _ (p .0))
 
 slot-field-requires : tie.Need-slot-field-requires Inv-loop μ-loop
 slot-field-requires c κs = search needs
@@ -42,8 +46,8 @@ returns c =
 mul-table : tie.Need-mul-table Inv-loop μ-loop
 mul-table c = omega arith
 
-array-write-table : tie.Need-array-write-table Inv-loop μ-loop
-array-write-table c = omega arith
+element-write-table : tie.Need-element-write-table Inv-loop μ-loop
+element-write-table c = omega arith
 
 add-l : tie.Need-add-l Inv-loop μ-loop
 add-l c = omega arith
@@ -82,7 +86,7 @@ read-slots-spec =
     enum-told
     returns
     mul-table
-    array-write-table
+    element-write-table
     add-l
     add-t
     loop-less
