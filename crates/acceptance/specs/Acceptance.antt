@@ -8,7 +8,7 @@ use Rattle.answers.specs.declared.Answer.the-variants.{Overdrawn}
 use Rattle.answers.specs.Answer.{_unless_, _andThen_, firstRefusal}
 use Rattle.plan.specs.declared.Plan.{Plan}
 use Rattle.plan.specs.Plan.{jobsOf, slotsOf, countsAt}
-use Rattle.intervals.specs.Spares.{hiLeft, row, current}
+use Rattle.spares.specs.Spares.{hiLeft, row, current}
 use Rattle.well_formed.specs.WellFormed.{wellFormed}
 use Rattle.window_sums.specs.WindowSums.{check8}
 

@@ -19,7 +19,7 @@ use Rattle.plan.specs.declared.Plan.{Plan}
 use Rattle.plan.specs.Limits.{maxJobs}
 use Rattle.plan.specs.Plan.{jobsOf, blankJob, countsAt}
 use Rattle.plan.specs.CountLaws.{counts-at, counts-length}
-use Rattle.intervals.specs.Spares.{hiLeft}
+use Rattle.spares.specs.Spares.{hiLeft}
 use Rattle.well_formed.specs.InOrder.{jobAt, tab, InOrder}
 use Rattle.well_formed.specs.InOrderLaws.{among-jobs, jobs-length}
 use Rattle.spare_theory.specs.Promise.{windowsOf, asked, NoEnd}

@@ -11,7 +11,7 @@ use Rattle.plan.specs.declared.Plan.{Plan}
 use Rattle.plan.specs.Plan.{jobsOf}
 use Rattle.intervals.specs.Layout.{blankInterval}
 use Rattle.intervals.specs.Intervals.{maxIntervals, intervals}
-use Rattle.intervals.specs.Spares.{hiLeft, loLeft, row, noSpares}
+use Rattle.spares.specs.Spares.{hiLeft, loLeft, row, noSpares}
 use Rattle.acceptance.specs.declared.Analysis.{Analysis}
 use Rattle.acceptance.specs.Acceptance.{acceptance}
 

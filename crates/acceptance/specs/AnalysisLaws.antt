@@ -8,7 +8,7 @@ use Rattle.answers.specs.Answer.{accepted, _andThen_}
 use Rattle.plan.specs.declared.Plan.{Plan}
 use Rattle.plan.specs.Plan.{jobsOf}
 use Rattle.intervals.specs.declared.Layout.{Layout}
-use Rattle.intervals.specs.Spares.{row}
+use Rattle.spares.specs.Spares.{row}
 use Rattle.intervals.specs.Layout.{layoutOf}
 use Rattle.acceptance.specs.declared.Analysis.{Analysis}
 use Rattle.well_formed.specs.WellFormed.{wellFormed}

@@ -13,7 +13,7 @@ use Rattle.plan.specs.declared.Plan.{Plan}
 use Rattle.plan.specs.Limits.{maxJobs, oneTo}
 use Rattle.plan.specs.Plan.{isHi, naming, slotsOf}
 use Rattle.plan.specs.Counts.{maxCount}
-use Rattle.intervals.specs.Spares.{row, current}
+use Rattle.spares.specs.Spares.{row, current}
 use Rattle.acceptance.specs.declared.Border.{Border}
 use Rattle.acceptance.specs.Acceptance.{alongTable}
 

@@ -4,8 +4,8 @@ use mathlib.Core.Bool.{Bool, true}
 use mathlib.Core.List.{List, zipWith}
 use Rattle.words.specs.Words.{if_then_else_, _<?_}
 use Rattle.plan.specs.declared.Job.{Job}
-use Rattle.intervals.specs.Spares.{hiLeft, loLeft}
-use Rattle.intervals.specs.Debt.{sumsByHome}
+use Rattle.spares.specs.Spares.{hiLeft, loLeft}
+use Rattle.spares.specs.Debt.{sumsByHome}
 
 -- the HI work of a job that has had so many table slots and ends on its lo-th
 abbrev pub leftAlong : Job → ℕ → ℕ

@@ -13,11 +13,13 @@ use Rattle.plan.specs.Plan.{jobsOf, countsAt}
 use Rattle.intervals.specs.declared.Interval.{Interval}
 use Rattle.intervals.specs.declared.Layout.{Layout}
 use Rattle.intervals.specs.Intervals.{maxIntervals, intervals}
-use Rattle.intervals.specs.Spares.{remaining, spares, row, current}
-use Rattle.intervals.specs.Layout.{layoutOf, rowIn}
-use Rattle.intervals.specs.LayoutLaws.{row-of-layout, past-of-layout}
-use Rattle.intervals.specs.Debt.{inDebt}
-use Rattle.intervals.specs.DebtLaws.{in-debt}
+use Rattle.spares.specs.Spares.{remaining, spares, row, current}
+use Rattle.intervals.specs.Layout.{layoutOf}
+use Rattle.spares.specs.InLayout.{rowIn}
+use Rattle.spares.specs.InLayoutLaws.{row-of-layout}
+use Rattle.intervals.specs.LayoutLaws.{past-of-layout}
+use Rattle.spares.specs.Debt.{inDebt}
+use Rattle.spares.specs.DebtLaws.{in-debt}
 use Rattle.acceptance.specs.Acceptance.{alongTable}
 use Rattle.acceptance.specs.Work.{leftAlong, workAlong, sumsAlong, leftAtStart}
 

@@ -11,7 +11,7 @@ use Rattle.answers.specs.Answer.{accepted, _unless_, _andThen_, firstRefusal}
 use Rattle.answers.specs.RefusalLaws.{both-accept}
 use Rattle.plan.specs.declared.Plan.{Plan}
 use Rattle.plan.specs.Plan.{slotsOf}
-use Rattle.intervals.specs.Spares.{row, current}
+use Rattle.spares.specs.Spares.{row, current}
 use Rattle.acceptance.specs.Acceptance.{alongTable, check9, acceptance}
 use Rattle.acceptance.specs.Analysis.{analysis}
 use Rattle.well_formed.specs.WellFormed.{wellFormed}

@@ -20,7 +20,7 @@ use Rattle.plan.specs.declared.Job.{Job}
 use Rattle.plan.specs.declared.Plan.{Plan}
 use Rattle.plan.specs.Plan.{jobsOf, blankJob, isHi}
 use Rattle.intervals.specs.Intervals.{rising}
-use Rattle.intervals.specs.Spares.{hiLeft}
+use Rattle.spares.specs.Spares.{hiLeft}
 use Rattle.window_sums.specs.WindowSums.{hiWithin, hiJobs, hiReleases, hiDeadlines, check8At, check8}
 use Rattle.well_formed.specs.InOrder.{jobAt, InOrder}
 use Rattle.spare_theory.specs.Promise.{windowsOf, hiOf, A1}

@@ -5,7 +5,7 @@ use Rattle.answers.specs.Answer.{accepted, firstRefusal}
 use Rattle.plan.specs.Plan.{naming, countsAt}
 use Rattle.plan.specs.Rules.{check2, check3, windowHolds, budgetHolds, windowsHold}
 use Rattle.intervals.specs.Intervals.{insert, rising, leastRelease, intervalsFrom, intervals, past}
-use Rattle.intervals.specs.Spares.{hiLeft, loLeft, remaining, spare, spares, row, current}
+use Rattle.spares.specs.Spares.{hiLeft, loLeft, remaining, spare, spares, row, current}
 use Rattle.acceptance.specs.Acceptance.{alongTable, check9, acceptance}
 use Rattle.acceptance.specs.Analysis.{analysis}
 use Rattle.well_formed.specs.WellFormed.{check4, check5, slotHolds, check6, check7, wellFormed}

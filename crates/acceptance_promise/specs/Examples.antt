@@ -1,7 +1,7 @@
 -- S1 at work: the borders count from the end of the current interval on, be that a deadline or not. By computation.
 use mathlib.Core.Path.{_≡_, refl}
 use lib.IntN.{pos}
-use Rattle.intervals.specs.Spares.{row, current}
+use Rattle.spares.specs.Spares.{row, current}
 use Rattle.acceptance.specs.Analysis.{hiAtStart}
 use Rattle.acceptance_promise.specs.Plans.{late}
 use Rattle.acceptance_promise.specs.Compute.{planned}

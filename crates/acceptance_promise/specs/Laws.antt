@@ -10,7 +10,7 @@ use Rattle.answers.specs.Answer.{accepted}
 use Rattle.windows.specs.Windows.{dueBy, within, InTime}
 use Rattle.plan.specs.declared.Plan.{Plan}
 use Rattle.intervals.specs.Intervals.{intervals}
-use Rattle.intervals.specs.Spares.{row, current}
+use Rattle.spares.specs.Spares.{row, current}
 use Rattle.acceptance.specs.Acceptance.{check9, acceptance}
 use Rattle.well_formed.specs.WellFormed.{wellFormed}
 use Rattle.window_sums.specs.WindowSums.{check8}

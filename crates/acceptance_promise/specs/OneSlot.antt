@@ -4,7 +4,7 @@ use mathlib.Core.Path.{_≡_}
 use mathlib.Core.Bool.{Bool, true}
 use Rattle.plan.specs.declared.Plan.{Plan}
 use Rattle.plan.specs.Plan.{isHi, tableAt}
-use Rattle.intervals.specs.Spares.{hiLeft}
+use Rattle.spares.specs.Spares.{hiLeft}
 use Rattle.well_formed.specs.InOrder.{jobAt, tab}
 
 module _ (p : Plan) where

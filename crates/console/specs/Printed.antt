@@ -10,10 +10,12 @@ use Rattle.answers.specs.declared.Answer.the-variants.{Accepted, Written, Form,
 use Rattle.answers.specs.Answer.{numberOf, placesOf}
 use Rattle.intervals.specs.declared.Interval.{Interval}
 use Rattle.executive.specs.declared.Phase.{Phase}
+use Rattle.executive.specs.declared.Run.{Run}
+use Rattle.executive.specs.declared.Choice.{Choice}
 use Rattle.entries.specs.declared.Entry.{Entry}
 use Rattle.lines.specs.Lines.{bytes, LF, comma, digits}
 use Rattle.console.specs.Print.{signed, commas, values, refusedLine}
-use Rattle.console.specs.Run.{phaseLetter, standingLetter}
+use Rattle.console.specs.Run.{jobNumber, phaseLetter, standingLetter}
 
 -- `interval=start,end,hi,lo`
 abbrev pub intervalLine : Interval → ℤ → ℤ → List ℕ
@@ -22,6 +24,10 @@ intervalLine x hi lo = values "interval=" (digits (x .start) ∷ digits (x .end)
 -- `step=slot,job,phase,hi,lo`
 abbrev pub stepLineOf : ℕ → ℕ → Phase → ℤ → ℤ → List ℕ
 stepLineOf slot job phase hi lo = values "step=" (digits slot ∷ digits job ∷ phaseLetter phase ∷ signed hi ∷ signed lo ∷ [])
+
+-- of the run before the slot and the choice that its step made
+abbrev pub stepLineFrom : Run → Choice → List ℕ
+stepLineFrom r choice = stepLineOf (r .t) (jobNumber (choice .slot)) (r .phase) (choice .hi) (choice .lo)
 
 -- `job=number,standing,given`
 abbrev pub jobLine : ℕ → Entry → List ℕ

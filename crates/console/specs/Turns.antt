@@ -1,14 +1,13 @@
--- What the console's functions answer: the event, written into the lent output; the spares of a run by place; and their laws.
+-- What the console's functions answer: the event, written into the lent output; the step line by the choice; and their laws.
 use Prim.Native.Nat.{ℕ, _+_, _≤_, _<_}
 use native.Mathlib.Omega.{arith}
 use mathlib.Core.Path.{_≡_, refl, sym, ap, _∙_}
 use mathlib.Core.Bool.{Bool, true, false, not}
 use mathlib.Core.List.{List, []}
-use lib.IntN.{ℤ, pos}
-use lib.ListN.{length, getD, drop}
-use borrow.Author.Tests.{not-true, not-false, lt-ltb, le-ltb, le-leb, lt-leb, eq-eqb, ne-eqb}
+use lib.ListN.{length, drop}
+use borrow.Author.Tests.{lt-ltb, le-ltb, le-leb, lt-leb, eq-eqb, ne-eqb, not-true, not-false}
 use Rattle.words.specs.Words.{_≤?_}
-use Rattle.words.specs.Cases.{by-test}
+use Rattle.words.specs.Cases.{by-test, never}
 use Rattle.answers.specs.declared.Answer.{Answer}
 use Rattle.answers.specs.declared.Answer.the-variants.{Form}
 use Rattle.answers.specs.Answer.{accepted, firstPlace}
@@ -19,18 +18,12 @@ use Rattle.plan_text.specs.declared.reader.PlanPrefix.{PlanPrefix}
 use Rattle.plan_text.specs.Reader.{planPrefix}
 use Rattle.plan_text.specs.PrefixLaws.{prefix-stands}
 use Rattle.plan_text.specs.DecidedLaws.{enough, isFinal}
-use Rattle.intervals.specs.declared.Layout.{Layout}
-use Rattle.intervals.specs.Intervals.{intervals, past}
-use Rattle.intervals.specs.Layout.{layoutOf, pastIn}
-use Rattle.intervals.specs.Spares.{current}
-use Rattle.intervals.specs.LayoutLaws.{past-of-layout}
 use Rattle.executive.specs.declared.Run.{Run}
 use Rattle.executive.specs.declared.Report.{Report}
-use Rattle.executive.specs.declared.Choice.{Choice}
 use Rattle.executive.specs.declared.Started.{Started}
 use Rattle.executive.specs.declared.Stepped.{Stepped}
-use Rattle.executive.specs.Choice.{chosen, canGoOn, choose}
-use Rattle.executive.specs.Step.{step}
+use Rattle.executive.specs.Choice.{madeChoice}
+use Rattle.executive.specs.Step.{reportAnswer, step}
 use Rattle.executive.specs.Run.{start}
 use Rattle.console.specs.declared.run.Stage.{Stage}
 use Rattle.console.specs.declared.run.Stage.the-variants.{Reading, Running, Stopped}
@@ -39,11 +32,10 @@ use Rattle.console.specs.declared.run.Turn.{Turn}
 use Rattle.console.specs.declared.reports.ReportAt.{ReportAt}
 use Rattle.console.specs.declared.reports.ReportAt.the-variants as ReportAt
 use Rattle.console.specs.Print.{refusedLine}
-use Rattle.console.specs.Run.{jobNumber, stepLine, jobLines}
+use Rattle.console.specs.Run.{stepLine, jobLines}
 use Rattle.console.specs.Reports.{reportAt, report-within}
 use Rattle.console.specs.Pieces.{Piece, CountsIn, counts-in, piece-counts}
-use Rattle.console.specs.Printed.{stepLineOf}
-use Rattle.console.specs.SessionLaws.{step-goes}
+use Rattle.console.specs.Printed.{stepLineFrom}
 use Rattle.console.specs.Console.{Event, waits, refuses, startedEvent, planEvent, lineReady, longestReport, lineAfter, steppedEvent, reportEvent, lineEvent, eventIn, event, unreadOutput, endIn, endOutput, runRoom, turnOf, nextTurn, nextOut, endLength, endWritten}
 
 -- the turn is the event's, and what it prints stands at the start of the output
@@ -150,23 +142,13 @@ module _ (c : Console) (used : ℕ) (s t : Stepped) (is : s ≡ t) where
       → record { printed = stepLine (c .run); console = record { stage = Running; run = s .run; line = line }; used = used; waiting = false } ≡ steppedEvent c used t
   step-taken h line e = let h′ : accepted (t .answer) ≡ true = rw is at h in rw (h′, is, e)
 
--- a run that takes a step can go on
-pub goes-on : (r : Run) (report : Report) (s : Stepped) → s ≡ step r report → accepted (s .answer) ≡ true → accepted (canGoOn r) ≡ true
-goes-on r report s is h = step-goes r report (rw is at h)
-
--- what is chosen, and the current spares by place
-module _ (r : Run) (goes : accepted (canGoOn r) ≡ true) (choice : Choice) (is : choice ≡ choose r) (l : Layout) (lies : l ≡ layoutOf (r .plan)) where
-  slot-chosen : choice .slot ≡ chosen r
-  unfolding choose
-  slot-chosen = rw (is, goes)
-
-  pub step-line : (job place : ℕ) (hi lo : ℤ) → job ≡ jobNumber (choice .slot) → place ≡ pastIn l (r .t) → hi ≡ getD (r .hi) place (pos 0) → lo ≡ getD (r .lo) place (pos 0)
-      → stepLineOf (r .t) job (r .phase) hi lo ≡ stepLine r
-  unfolding stepLine current
-  step-line job place hi lo ej ep eh el =
-      let j : job ≡ jobNumber (chosen r) = ej ∙ ap jobNumber slot-chosen in
-      let p : place ≡ past (r .t) (intervals (r .plan)) = ep ∙ ap (λ (x : Layout). pastIn x (r .t)) lies ∙ past-of-layout (r .plan) (r .t) in
-      rw (j, eh, el, p)
+-- the step line, from the choice that the step handed back
+pub step-line : (r : Run) (report : Report) (s : Stepped) → s ≡ step r report → accepted (s .answer) ≡ true → stepLineFrom r (s .choice) ≡ stepLine r
+unfolding stepLine step madeChoice
+step-line r report s is h =
+    by-test (accepted (reportAnswer r report))
+    (λ g. let c : s .choice ≡ madeChoice r = ap (λ (x : Stepped). x .choice) is ∙ rw g in rw c)
+    (λ g. let f : accepted (s .answer) ≡ false = ap (λ (x : Stepped). accepted (x .answer)) is ∙ rw g g in absurd (never h f))
 
 -- ---- the console
 

@@ -1,15 +1,13 @@
 // The run program's console: a value that is handed the input piece by piece and says what is printed. Reading and writing are in run_plan.
 ghost use mathlib.Core.Path.{_≡_};
-ghost use mathlib.Core.Bool.{true};
 ghost use Prim.Native.Nat.{_+_, _≤_, min};
-ghost use lib.IntN.{pos};
-ghost use lib.ListN.{length, getD};
-ghost use Rattle.answers.specs.Answer.{accepted};
+ghost use lib.ListN.{length};
+ghost use mathlib.Core.Bool.{true};
 ghost use Rattle.plan.specs.Limits.{maxJobs};
-ghost use Rattle.executive.specs.Choice.{canGoOn};
 ghost use Rattle.executive.specs.Run.{start};
 ghost use Rattle.executive.specs.Step.{step};
-ghost use Rattle.console.specs.Run.{jobNumber, stepLine, jobLines};
+ghost use Rattle.console.specs.Run.{jobNumber, jobLines};
+ghost use Rattle.console.specs.Printed.{stepLineFrom};
 ghost use Rattle.console.specs.Pieces.{Piece, longest, CountsIn};
 ghost use Rattle.console.specs.Console.{freshConsole, waits, refuses, startedEvent, planEvent, lineReady, lineAfter, steppedEvent, lineEvent, unreadOutput, endIn, isStopped, runRoom, turnOf, nextTurn, nextOut, endLength, endWritten};
 ghost use Rattle.console.specs.Turns.{Told};
@@ -22,6 +20,7 @@ use crate::print::put_step_line;
 use crate::reports::ReportAt;
 use crate::reports::report_field;
 use answers::Answer;
+use executive::Choice;
 use executive::Report;
 use executive::Run;
 use plan::Plan;
@@ -175,33 +174,15 @@ fn job_number(slot: Slot) -> u16
     }
 }
 
-// The spare at a place of a row; beyond the row there is 0.
-fn spare_at(row: [i32; intervals::INTERVALS], place: usize) -> i32
-    ensures { λ r. ⌜ r ≡ getD row place (pos 0) ⌝ }
+// The step line: what was chosen, the phase and the current spares before the slot. `run` is the run before it.
+fn put_step(out: &mut [u8], run: Run, choice: Choice) -> usize
+    requires { ⌜ runRoom ≤ length (now out) ⌝ }
+    ensures { λ r. ⌜ Piece longest 0 (stepLineFrom run choice) (now (out .entry)) r (now (out .exit)) ⌝ }
 {
-    if intervals::INTERVALS <= place {
-        return 0;
-    }
-    row[place]
-}
-
-// The step line of a run that can go on: what is chosen, the phase and the current spares before the slot.
-fn put_step(out: &mut [u8], run: Run) -> usize
-    requires { ⌜ (runRoom ≤ length (now out)) × (accepted (canGoOn run) ≡ true) ⌝ }
-    ensures { λ r. ⌜ Piece longest 0 (stepLine run) (now (out .entry)) r (now (out .exit)) ⌝ }
-{
-    let choice = run.choose();
     let slot = choice.slot;
     let job = job_number(slot);
-    let plan = run.plan;
-    let layout = intervals::layout_of(plan);
-    let place = intervals::past_of(layout, run.t);
-    let his = run.hi;
-    let hi = spare_at(his, place);
-    let los = run.lo;
-    let lo = spare_at(los, place);
     let phase = run.phase;
-    put_step_line(out, 0, run.t, job, phase, hi, lo)
+    put_step_line(out, 0, run.t, job, phase, choice.hi, choice.lo)
 }
 
 // A report is applied: the step line and the next run, or a refusal.
@@ -216,7 +197,8 @@ fn stepped(c: Console, report: Report, used: usize, out: &mut [u8]) -> Turn
         return refused(c, answer, out);
     }
     let next = after.run;
-    let printed = put_step(out, run);
+    let choice = after.choice;
+    let printed = put_step(out, run, choice);
     Turn {
         console: Console {
             stage: Stage::Running,

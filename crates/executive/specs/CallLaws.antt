@@ -3,28 +3,18 @@ use Prim.Native.Nat.{ℕ, _<_}
 use mathlib.Core.Bool.{Bool, true, false}
 use mathlib.Core.Path.{_≡_, refl, sym, ap, _∙_}
 use borrow.Author.Tests.{ltb-true}
-use lib.Count.{ones}
 use Rattle.words.specs.Words.{_<?_, _=?_}
-use Rattle.plan.specs.declared.Plan.{Plan}
-use Rattle.intervals.specs.declared.Layout.{Layout}
-use Rattle.intervals.specs.Intervals.{intervals, past}
-use Rattle.intervals.specs.Layout.{layoutOf, pastIn}
-use Rattle.intervals.specs.LayoutLaws.{past-of-layout}
 use Rattle.answers.specs.declared.Answer.{Answer}
 use Rattle.answers.specs.declared.Answer.the-variants.{Accepted, Incoherent, Over, OtherSlot, WrongKind}
 use Rattle.answers.specs.Answer.{accepted, _unless_}
 use Rattle.executive.specs.declared.Run.{Run}
-use Rattle.ready.specs.declared.Slot.{Slot}
 use Rattle.executive.specs.declared.Report.{Report}
 use Rattle.executive.specs.declared.Choice.{Choice}
 use Rattle.executive.specs.declared.Stepped.{Stepped}
 use Rattle.executive.specs.Coherent.{coherent}
-use Rattle.executive.specs.Choice.{ready, chosen, canGoOn, choose, members}
-use Rattle.ready.specs.Ready.{setOf, howMany}
-use Rattle.executive.specs.MemberLaws.{members-all}
-use Rattle.ready.specs.ReadyLaws.{ones-set}
+use Rattle.executive.specs.Choice.{chosen, canGoOn, madeChoice, noChoice, choose}
 use Rattle.answers.specs.RefusalLaws.{unless-holds, both-accept}
-use Rattle.executive.specs.Step.{nextRun, kindFits, reportAnswer, step}
+use Rattle.executive.specs.Step.{nextRun, refusedStep, kindFits, reportAnswer, step}
 
 -- a call that goes on has a coherent run before its last border
 pub goes-on : (r : Run) → accepted (canGoOn r) ≡ true → (coherent r ≡ true) × (r .t < r .plan .slots)
@@ -32,10 +22,6 @@ unfolding canGoOn accepted
 goes-on r p =
     let a = both-accept (Incoherent unless coherent r) (Over (r .t) unless (r .t <? r .plan .slots)) p in
     (unless-holds Incoherent (coherent r) refl (a .0), ltb-true (r .t) (r .plan .slots) (unless-holds (Over (r .t)) (r .t <? r .plan .slots) refl (a .1)))
-
--- the place of the current interval, from the layout of the plan
-pub place-of-current : (p : Plan) (t : ℕ) (l : Layout) (place : ℕ) → l ≡ layoutOf p → place ≡ pastIn l t → place ≡ past t (intervals p)
-place-of-current p t l place el ep = ep ∙ ap (λ (x : Layout). pastIn x t) el ∙ past-of-layout p t
 
 -- 10, then 11
 module _ (r : Run) where
@@ -71,30 +57,32 @@ module _ (r : Run) (answer : Answer) (ok : Bool) (ea : answer ≡ canGoOn r) (eo
   pub went-on : ok ≡ true → (coherent r ≡ true) × (r .t < r .plan .slots)
   went-on p = goes-on r (going true p)
 
-  pub choice-refused : ok ≡ false → _≡_ {A = Choice} (record { answer = answer; slot = Slot.Idle; ready = 0 }) (choose r)
+  pub choice-refused : ok ≡ false → noChoice answer ≡ choose r
   unfolding choose
   choice-refused p = rw (going false p, ea)
 
-  pub choice-made : ok ≡ true → (slot : Slot) (set : ℕ) → slot ≡ chosen r → set ≡ setOf (members false r) → _≡_ {A = Choice} (record { answer = Accepted; slot = slot; ready = ones set }) (choose r)
+  pub choice-made : ok ≡ true → (made : Choice) → made ≡ madeChoice r → made ≡ choose r
   unfolding choose
-  choice-made p slot set es en =
-      let n : ones set ≡ howMany (ready r) = ap ones en ∙ ones-set (members false r) ∙ ap howMany (members-all r) in
-      rw (going true p, es, n)
+  choice-made p made em = rw (going true p, em)
 
   module _ (report : Report) where
-    pub step-refused : ok ≡ false → _≡_ {A = Stepped} (record { answer = answer; run = r }) (step r report)
+    pub step-refused : ok ≡ false → refusedStep r answer ≡ step r report
     unfolding step reportAnswer
     step-refused p = rw (going false p, going false p, ea)
 
-    pub other-refused : ok ≡ true → (report .slot =? r .t) ≡ false → _≡_ {A = Stepped} (record { answer = OtherSlot (r .t); run = r }) (step r report)
+    pub other-refused : ok ≡ true → (report .slot =? r .t) ≡ false → refusedStep r (OtherSlot (r .t)) ≡ step r report
     unfolding step reportAnswer
     other-refused p q = rw (going true p, q, not-other (r .t), not-other (r .t))
 
-    module _ (same : (report .slot =? r .t) ≡ true) (slot : Slot) (es : slot ≡ chosen r) where
-      pub kind-refused : ok ≡ true → kindFits slot (report .kind) ≡ false → _≡_ {A = Stepped} (record { answer = WrongKind (r .t); run = r }) (step r report)
-      unfolding step reportAnswer
-      kind-refused p q = rw (going true p, same, yes, ← es, q, not-kind (r .t))
+    module _ (same : (report .slot =? r .t) ≡ true) (made : Choice) (em : made ≡ madeChoice r) where
+      slot-chosen : made .slot ≡ chosen r
+      unfolding madeChoice
+      slot-chosen = ap (λ (x : Choice). x .slot) em
 
-      pub stepped : ok ≡ true → kindFits slot (report .kind) ≡ true → (next : Run) → next ≡ nextRun r slot (report .kind) → _≡_ {A = Stepped} (record { answer = Accepted; run = next }) (step r report)
+      pub kind-refused : ok ≡ true → kindFits (made .slot) (report .kind) ≡ false → refusedStep r (WrongKind (r .t)) ≡ step r report
       unfolding step reportAnswer
-      stepped p q next en = rw (going true p, same, yes, ← es, q, yes, en)
+      kind-refused p q = let q′ : kindFits (chosen r) (report .kind) ≡ false = rw slot-chosen at q in rw (going true p, same, yes, q′, not-kind (r .t))
+
+      pub stepped : ok ≡ true → kindFits (made .slot) (report .kind) ≡ true → (next : Run) → next ≡ nextRun r (made .slot) (report .kind) → _≡_ {A = Stepped} (record { answer = Accepted; run = next; choice = made }) (step r report)
+      unfolding step reportAnswer
+      stepped p q next en = let q′ : kindFits (chosen r) (report .kind) ≡ true = rw slot-chosen at q in let n : next ≡ nextRun r (chosen r) (report .kind) = rw slot-chosen at en in rw (going true p, same, yes, q′, yes, n, em)

@@ -1,6 +1,7 @@
 -- Who gets slot t.
 use mathlib.Core.Bool.{Bool, not, _&&_}
 use mathlib.Core.List.{List, zipWith}
+use lib.IntN.{pos}
 use Rattle.answers.specs.declared.Answer.{Answer}
 use Rattle.answers.specs.declared.Answer.the-variants.{Accepted, Incoherent, Over}
 use Rattle.words.specs.Words.{if_then_else_, _≤?_, _<?_, below0, above0}
@@ -48,10 +49,15 @@ chosen r = chosenIn (r .phase) r
 unfoldable pub canGoOn : Run → Answer
 canGoOn r = (Incoherent unless coherent r) andThen (Over (r .t) unless (r .t <? r .plan .slots))
 
--- a refused choice is idle with 0 ready
+-- what slot t is given to, how many are ready, and the current spares before the slot
+unfoldable pub madeChoice : Run → Choice
+madeChoice r = record { answer = Accepted; slot = chosen r; ready = howMany (ready r); hi = currentHi r; lo = currentLo r }
+
+-- a refused choice is idle with 0 ready and spares of 0
+abbrev pub noChoice : Answer → Choice
+noChoice answer = record { answer = answer; slot = Slot.Idle; ready = 0; hi = pos 0; lo = pos 0 }
+
 unfoldable pub choose : Run → Choice
 choose r =
     let answer = canGoOn r in
-    if accepted answer
-    then record { answer = Accepted; slot = chosen r; ready = howMany (ready r) }
-    else record { answer = answer; slot = Slot.Idle; ready = 0 }
+    if accepted answer then madeChoice r else noChoice answer

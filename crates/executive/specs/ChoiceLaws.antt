@@ -2,20 +2,21 @@
 use Prim.Native.Nat.{ℕ, _-_}
 use mathlib.Core.Bool.{Bool, true, false, not, _&&_}
 use mathlib.Core.Path.{_≡_, sym, ap, _∙_}
-use lib.IntN.{pos}
 use lib.ListN.{getD}
 use native.Mathlib.Omega.{arith}
-use Rattle.ready.specs.ReadyLaws.{walk-members}
+use Rattle.ready.specs.ReadyLaws.{walk-members, ones-set}
 use Rattle.words.specs.Words.{_≤?_, below0, above0}
 use Rattle.plan.specs.Limits.{maxJobs}
-use Rattle.intervals.specs.Intervals.{intervals, past}
-use Rattle.intervals.specs.Spares.{current}
+use lib.Count.{ones}
+use Rattle.spares.specs.Spares.{Spare}
+use Rattle.answers.specs.declared.Answer.the-variants.{Accepted}
+use Rattle.executive.specs.declared.Choice.{Choice}
 use Rattle.executive.specs.declared.Run.{Run}
 use Rattle.ready.specs.declared.Slot.{Slot}
 use Rattle.entries.specs.Entry.{live, freshEntry}
 use Rattle.executive.specs.Run.{currentHi, currentLo}
-use Rattle.ready.specs.Ready.{setOf, earliest, membersOf}
-use Rattle.executive.specs.Choice.{chosenT, chosenH, members}
+use Rattle.ready.specs.Ready.{setOf, membersOf, howMany, earliest}
+use Rattle.executive.specs.Choice.{ready, members, chosenT, chosenH, chosen, madeChoice}
 use Rattle.executive.specs.MemberLaws.{Full, members-all, members-hi, members-length}
 
 -- the slot from the set
@@ -38,11 +39,10 @@ module _ (r : Run) (t i : ℕ) (has : Bool) (et : t ≡ r .t) (ei : i ≡ getD (
   other-slot p set slot full q s = rw (table-test false p, ← members-all r) (from-set false r set slot full q s)
 
 -- phase H: the current spares say whether all ready jobs or the ready HI jobs are asked
-module _ (r : Run) (place : ℕ) (all : Bool) (set : ℕ) (slot : Slot) (ep : place ≡ past (r .t) (intervals (r .plan)))
-    (ea : all ≡ (above0 (getD (r .hi) place (pos 0)) && not (below0 (getD (r .lo) place (pos 0))))) (full : Full r) where
+module _ (r : Run) (hi lo : Spare) (all : Bool) (set : ℕ) (slot : Slot) (eh : hi ≡ currentHi r) (el : lo ≡ currentLo r)
+    (ea : all ≡ (above0 hi && not (below0 lo))) (full : Full r) where
   spare-test : (b : Bool) → all ≡ b → (above0 (currentHi r) && not (below0 (currentLo r))) ≡ b
-  unfolding current
-  spare-test b p = rw ep at (sym ea ∙ p)
+  spare-test b p = rw (eh, el) at (sym ea ∙ p)
 
   pub open-slot : all ≡ true → set ≡ setOf (members false r) → slot ≡ earliest (r .plan .job) (membersOf maxJobs set) → slot ≡ chosenH r
   unfolding chosenH
@@ -51,3 +51,11 @@ module _ (r : Run) (place : ℕ) (all : Bool) (set : ℕ) (slot : Slot) (ep : pl
   pub hi-slot : all ≡ false → set ≡ setOf (members true r) → slot ≡ earliest (r .plan .job) (membersOf maxJobs set) → slot ≡ chosenH r
   unfolding chosenH
   hi-slot p q s = rw (spare-test false p, ← members-hi r) (from-set true r set slot full q s)
+
+-- the choice, from what the code has worked out
+pub choice-is : (r : Run) (slot : Slot) (set : ℕ) (hi lo : Spare) → slot ≡ chosen r → set ≡ setOf (members false r) → hi ≡ currentHi r → lo ≡ currentLo r
+    → _≡_ {A = Choice} (record { answer = Accepted; slot = slot; ready = ones set; hi = hi; lo = lo }) (madeChoice r)
+unfolding madeChoice
+choice-is r slot set hi lo es en eh el =
+    let n : ones set ≡ howMany (ready r) = ap ones en ∙ ones-set (members false r) ∙ ap howMany (members-all r) in
+    rw (es, n, eh, el)

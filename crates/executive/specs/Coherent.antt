@@ -1,9 +1,8 @@
 -- When the record of a run is coherent.
 use Prim.Native.Nat.{ℕ}
-use mathlib.Core.Bool.{Bool, false, _&&_}
+use mathlib.Core.Bool.{Bool, _&&_}
 use mathlib.Core.List.{List, zipWith}
-use lib.IntN.{ℤ, pos, negsuc}
-use Rattle.words.specs.Words.{_≤?_, _=?_, every}
+use Rattle.words.specs.Words.{_≤?_, every}
 use Rattle.plan.specs.Plan.{jobsOf}
 use Rattle.answers.specs.Answer.{accepted}
 use Rattle.well_formed.specs.WellFormed.{wellFormed}
@@ -11,6 +10,7 @@ use Rattle.plan.specs.declared.Job.{Job}
 use Rattle.entries.specs.declared.Entry.{Entry}
 use Rattle.entries.specs.Entry.{entryHolds}
 use Rattle.executive.specs.declared.Run.{Run}
+use Rattle.spares.specs.Spares.{sameRow}
 use Rattle.executive.specs.Run.{freshHi, freshLo}
 
 -- the entries of these jobs hold at border t
@@ -19,15 +19,6 @@ allHold t js es = every (zipWith (entryHolds t) js es)
 
 unfoldable pub entriesHold : Run → Bool
 entriesHold r = allHold (r .t) (jobsOf (r .plan)) (r .entry)
-
-abbrev pub sameSpare : ℤ → ℤ → Bool
-sameSpare (pos m) (pos n) = m =? n
-sameSpare (pos m) (negsuc n) = false
-sameSpare (negsuc m) (pos n) = false
-sameSpare (negsuc m) (negsuc n) = m =? n
-
-unfoldable pub sameRow : List ℤ → List ℤ → Bool
-sameRow xs ys = every (zipWith sameSpare xs ys)
 
 -- its plan passes 2 to 7, t <= N, its entries hold, and both rows equal the fresh ones
 unfoldable pub coherent : Run → Bool

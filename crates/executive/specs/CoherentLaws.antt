@@ -27,7 +27,8 @@ use Rattle.executive.specs.declared.Phase.{Phase}
 use Rattle.executive.specs.declared.Run.{Run}
 use Rattle.ready.specs.declared.Slot.{Slot}
 use Rattle.executive.specs.Run.{entryNo, freshHi, freshLo, currentHi, currentLo}
-use Rattle.executive.specs.Coherent.{entriesHold, sameRow, coherent}
+use Rattle.executive.specs.Coherent.{entriesHold, coherent}
+use Rattle.spares.specs.Spares.{sameRow}
 use Rattle.ready.specs.Ready.{isReady, earliest, isMember}
 use Rattle.executive.specs.Choice.{ready, readyHi, chosenT, chosenH, chosenIn, chosen, members}
 use Rattle.executive.specs.MemberLaws.{Full, members-all, members-hi, members-length, member-at}

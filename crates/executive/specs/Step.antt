@@ -20,7 +20,7 @@ use Rattle.executive.specs.declared.Report.{Report}
 use Rattle.executive.specs.declared.Stepped.{Stepped}
 use Rattle.entries.specs.Entry.{ranOn, expiredEntry, pastLo, settled}
 use Rattle.executive.specs.Run.{entryNo, freshHi, freshLo}
-use Rattle.executive.specs.Choice.{chosen, canGoOn}
+use Rattle.executive.specs.Choice.{chosen, canGoOn, madeChoice, noChoice}
 
 abbrev pub entriesAfter : Run → Slot → Kind → List Entry
 entriesAfter r Slot.Idle kind = r .entry
@@ -88,10 +88,14 @@ reportAnswer r report =
     andThen (OtherSlot (r .t) unless (report .slot =? r .t))
     andThen (WrongKind (r .t) unless kindFits (chosen r) (report .kind))
 
--- a step hands back the next run with the answer; a refused one the same run
+-- a refusal: the same run, and no choice
+abbrev pub refusedStep : Run → Answer → Stepped
+refusedStep r answer = record { answer = answer; run = r; choice = noChoice answer }
+
+-- a step hands back the next run with the answer and the choice it made
 unfoldable pub step : Run → Report → Stepped
 step r report =
     let answer = reportAnswer r report in
     if accepted answer
-    then record { answer = Accepted; run = nextRun r (chosen r) (report .kind) }
-    else record { answer = answer; run = r }
+    then record { answer = Accepted; run = nextRun r (chosen r) (report .kind); choice = madeChoice r }
+    else refusedStep r answer

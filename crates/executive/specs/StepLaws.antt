@@ -6,11 +6,11 @@ use native.Mathlib.Omega.{arith}
 use mathlib.Core.Bool.{Bool, true, false}
 use mathlib.Core.Path.{_≡_, refl, ap, sym, _∙_}
 use mathlib.Core.List.{List, [], _∷_}
-use lib.ListN.{length, take, drop, getD, set, replicate, drop-of-length-le}
-use lib.Seq.{take-suc, drop-cons, length-take-le, set-at}
+use lib.ListN.{length, take, drop, getD, set, drop-of-length-le}
+use lib.Seq.{drop-cons, length-take-le}
 use Rattle.plan.specs.declared.Job.{Job}
 use Rattle.plan.specs.Plan.{blankJob}
-use Rattle.words.specs.Words.{if_then_else_, filled}
+use Rattle.words.specs.Words.{if_then_else_}
 use Rattle.words.specs.ListLaws.{taken-from}
 use Rattle.entries.specs.declared.Entry.{Entry}
 use Rattle.executive.specs.declared.Run.{Run}
@@ -56,14 +56,6 @@ unfolding everySettled
 settled-end js es cs n i le h =
     let l : length (take n js) ≤ i = rw (length-take-le n js le) h in
     rw (drop-of-length-le (take n js) l)
-
--- an array filled from the front by a list, one store a turn
-pub filled-next : (n z d i : ℕ) (xs : List ℕ) → i < length xs → length xs ≤ n → set (filled n z (take i xs)) i (getD xs i d) ≡ filled n z (take (i + 1) xs)
-filled-next n z d i xs h l =
-    let e : length (take i xs) ≡ i = length-take-le i xs (omega arith) in
-    let e′ : length (take (suc i) xs) ≡ suc i = length-take-le (suc i) xs (omega arith) in
-    let r : n - i ≡ suc (n - suc i) = omega arith in
-    rw (add-one i, e, e′, r, set-at (take i xs) z (replicate (n - suc i) z) (getD xs i d) i e, take-suc xs i d h, mathlib.Core.List.append-assoc)
 
 module _ (r : Run) (slot : Slot) (k i : ℕ) (p : slot ≡ Slot.Job k) (q : i ≡ k - 1) where
   -- a slot with a job, reported

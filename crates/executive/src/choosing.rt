@@ -1,10 +1,8 @@
 // Who gets slot t, in either phase. What a choice is refused for is in lib.rt.
 ghost use mathlib.Core.Path.{_≡_};
 ghost use mathlib.Core.Bool.{false, not, _&&_};
-ghost use lib.IntN.{pos};
-ghost use lib.ListN.{getD};
 ghost use Rattle.words.specs.Words.{_≤?_, below0, above0};
-ghost use Rattle.intervals.specs.Intervals.{intervals, past};
+ghost use Rattle.executive.specs.Run.{currentHi, currentLo};
 ghost use Rattle.entries.specs.Entry.{live};
 ghost use Rattle.ready.specs.Ready.{setOf};
 ghost use Rattle.executive.specs.Choice.{chosenT, chosenH, chosen, members};
@@ -13,11 +11,11 @@ use crate::Phase;
 use crate::Run;
 use entries::Entry;
 use entries::is_live;
-use intervals::INTERVALS;
 use ready::Slot;
 use ready::earliest;
 use ready::index;
 use ready::ready_set;
+use spares::Spare;
 
 // The table's job k has its slot when it is live.
 fn has_slot(k: u16, e: Entry) -> bool
@@ -29,36 +27,26 @@ fn has_slot(k: u16, e: Entry) -> bool
     is_live(e)
 }
 
-// The spare at a place of a row is above 0; beyond the row there is 0.
-fn is_above(row: [i32; INTERVALS], place: usize) -> bool
-    ensures { λ r. ⌜ r ≡ above0 (getD row place (pos 0)) ⌝ }
+fn is_above(spare: Spare) -> bool
+    ensures { λ r. ⌜ r ≡ above0 spare ⌝ }
 {
-    if INTERVALS <= place {
-        return false;
-    }
-    let spare = row[place];
     0 < spare
 }
 
-// It is below 0.
-fn is_below(row: [i32; INTERVALS], place: usize) -> bool
-    ensures { λ r. ⌜ r ≡ below0 (getD row place (pos 0)) ⌝ }
+fn is_below(spare: Spare) -> bool
+    ensures { λ r. ⌜ r ≡ below0 spare ⌝ }
 {
-    if INTERVALS <= place {
-        return false;
-    }
-    let spare = row[place];
     spare < 0
 }
 
-// With these rows' spares the slot is open to all ready jobs, not to the HI jobs only.
-fn open_to_all(hi: [i32; INTERVALS], lo: [i32; INTERVALS], place: usize) -> bool
-    ensures { λ r. ⌜ r ≡ (above0 (getD hi place (pos 0)) && not (below0 (getD lo place (pos 0)))) ⌝ }
+// With these current spares the slot is open to all ready jobs, not to the HI jobs only.
+fn open_to_all(hi: Spare, lo: Spare) -> bool
+    ensures { λ r. ⌜ r ≡ (above0 hi && not (below0 lo)) ⌝ }
 {
-    if !is_above(hi, place) {
+    if !is_above(hi) {
         return false;
     }
-    !is_below(lo, place)
+    !is_below(lo)
 }
 
 impl Run {
@@ -81,16 +69,14 @@ impl Run {
         earliest(job, ready)
     }
 
-    // `place` is that of the current interval, `ready` the set of the ready jobs.
-    fn chosen_h(self, place: usize, ready: u32) -> Slot
-        requires { ⌜ Sound self × (place ≡ past (self .t) (intervals (self .plan))) × (ready ≡ setOf (members false self)) ⌝ }
+    // `hi` and `lo` are the current spares, `ready` the set of the ready jobs.
+    fn chosen_h(self, hi: Spare, lo: Spare, ready: u32) -> Slot
+        requires { ⌜ Sound self × (hi ≡ currentHi self) × (lo ≡ currentLo self) × (ready ≡ setOf (members false self)) ⌝ }
         ensures { λ r. ⌜ r ≡ chosenH self ⌝ }
     {
         let p = self.plan;
         let job = p.job;
-        let hi = self.hi;
-        let lo = self.lo;
-        if open_to_all(hi, lo, place) {
+        if open_to_all(hi, lo) {
             return earliest(job, ready);
         }
         let entry = self.entry;
@@ -108,15 +94,15 @@ impl Run {
         ready_set(false, self.t, job, entry, p.jobs)
     }
 
-    // `place` is that of the current interval, `ready` the set of the ready jobs.
-    pub(crate) fn chosen(self, place: usize, ready: u32) -> Slot
-        requires { ⌜ Sound self × (place ≡ past (self .t) (intervals (self .plan))) × (ready ≡ setOf (members false self)) ⌝ }
+    // `hi` and `lo` are the current spares, `ready` the set of the ready jobs.
+    pub(crate) fn chosen(self, hi: Spare, lo: Spare, ready: u32) -> Slot
+        requires { ⌜ Sound self × (hi ≡ currentHi self) × (lo ≡ currentLo self) × (ready ≡ setOf (members false self)) ⌝ }
         ensures { λ r. ⌜ r ≡ chosen self ⌝ }
     {
         let phase = self.phase;
         match phase {
             Phase::T => self.chosen_t(ready),
-            Phase::H => self.chosen_h(place, ready),
+            Phase::H => self.chosen_h(hi, lo, ready),
         }
     }
 }

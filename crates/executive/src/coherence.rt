@@ -4,32 +4,14 @@ ghost use Prim.Native.Nat.{_≤_};
 ghost use lib.ListN.{take};
 ghost use Rattle.plan.specs.Limits.{maxJobs};
 ghost use Rattle.intervals.specs.Layout.{layoutOf};
-ghost use Rattle.executive.specs.Coherent.{allHold, sameRow, coherent};
+ghost use Rattle.executive.specs.Coherent.{allHold, coherent};
 ghost use Rattle.executive.specs.Step.{refreshed};
 use crate::Run;
-use crate::work::work_of;
 use entries::Entry;
 use entries::standing_holds;
-use intervals::INTERVALS;
 use intervals::Layout;
 use plan::JOBS;
 use plan::Job;
-
-// Two rows have the same spares.
-fn same_row(a: [i32; INTERVALS], b: [i32; INTERVALS]) -> bool
-    ensures { λ r. ⌜ r ≡ sameRow a b ⌝ }
-{
-    let mut i: usize = 0;
-    while i < INTERVALS {
-        let x = a[i];
-        let y = b[i];
-        if x != y {
-            return false;
-        }
-        i += 1;
-    }
-    true
-}
 
 // Of the first n jobs: a live one has fewer slots than hi; an ended one at most hi, and is not marked ended after t.
 fn entries_hold(t: u16, job: [Job; JOBS], entry: [Entry; JOBS], n: usize) -> bool
@@ -58,12 +40,9 @@ impl Run {
         let p = self.plan;
         let job = p.job;
         let entry = self.entry;
-        let n = p.jobs as usize;
-        let work = work_of(job, entry, n);
-        let hi_work = work.hi;
-        let lo_work = work.lo;
-        let hi = intervals::row_of(layout, self.t, hi_work);
-        let lo = intervals::row_of(layout, self.t, lo_work);
+        let rows = spares::rows_of(layout, self.t, job, entry, p.jobs);
+        let hi = rows.hi;
+        let lo = rows.lo;
         let mut next = self;
         next.hi = hi;
         next.lo = lo;
@@ -89,16 +68,14 @@ impl Run {
         if !entries_hold(self.t, job, entry, n) {
             return false;
         }
-        let work = work_of(job, entry, n);
+        let fresh = spares::rows_of(layout, self.t, job, entry, p.jobs);
         let hi = self.hi;
-        let hi_work = work.hi;
-        let fresh_hi = intervals::row_of(layout, self.t, hi_work);
-        if !same_row(hi, fresh_hi) {
+        let fresh_hi = fresh.hi;
+        if !spares::same_row(hi, fresh_hi) {
             return false;
         }
         let lo = self.lo;
-        let lo_work = work.lo;
-        let fresh_lo = intervals::row_of(layout, self.t, lo_work);
-        same_row(lo, fresh_lo)
+        let fresh_lo = fresh.lo;
+        spares::same_row(lo, fresh_lo)
     }
 }

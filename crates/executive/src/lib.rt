@@ -3,8 +3,8 @@ ghost use mathlib.Core.Path.{_≡_};
 ghost use Rattle.intervals.specs.Layout.{layoutOf};
 ghost use Rattle.executive.specs.Run.{blankRun, start};
 ghost use Rattle.executive.specs.Coherent.{coherent};
-ghost use Rattle.executive.specs.Choice.{canGoOn, choose};
-ghost use Rattle.executive.specs.Step.{nextRun, step};
+ghost use Rattle.executive.specs.Choice.{canGoOn, madeChoice, noChoice, choose};
+ghost use Rattle.executive.specs.Step.{nextRun, refusedStep, step};
 ghost use Rattle.executive.specs.Sound.{Sound, Countable};
 use answers::Answer;
 use entries::Entry;
@@ -12,12 +12,13 @@ use entries::Kind;
 use intervals::Layout;
 use plan::Plan;
 use ready::Slot;
+use spares::Row;
+use spares::Spare;
 use stepping::kind_fits;
 
 mod choosing;
 mod coherence;
 mod stepping;
-mod work;
 
 pub enum Phase {
     T,
@@ -28,8 +29,8 @@ pub struct Run {
     pub plan: Plan,
     pub t: u16,
     pub phase: Phase,
-    pub hi: [i32; intervals::INTERVALS],
-    pub lo: [i32; intervals::INTERVALS],
+    pub hi: Row,
+    pub lo: Row,
     pub entry: [Entry; plan::JOBS],
 }
 
@@ -44,17 +45,20 @@ pub struct Started {
     pub run: Run,
 }
 
-// What slot t is given to, and how many jobs are ready.
+// What slot t is given to, how many jobs are ready, and the current spares before the slot.
 pub struct Choice {
     pub answer: Answer,
     pub slot: Slot,
     pub ready: u32,
+    pub hi: Spare,
+    pub lo: Spare,
 }
 
-// The next run, or a refusal beside the same run.
+// The next run and the choice that was made, or a refusal beside the same run and no choice.
 pub struct Stepped {
     pub answer: Answer,
     pub run: Run,
+    pub choice: Choice,
 }
 
 // What a refused start hands back: the blank plan at border 0, every entry waiting with 0 given.
@@ -63,8 +67,8 @@ pub fn blank_run() -> Run
 {
     let p = plan::blank_plan();
     let entry = entries::fresh_entries();
-    let hi = [0i32; intervals::INTERVALS];
-    let lo = [0i32; intervals::INTERVALS];
+    let hi = spares::blank_row();
+    let lo = spares::blank_row();
     Run {
         plan: p,
         t: 0,
@@ -105,6 +109,19 @@ pub fn start(p: Plan) -> Started
     }
 }
 
+// A refused choice: idle with 0 ready and spares of 0.
+fn no_choice(answer: Answer) -> Choice
+    ensures { λ r. ⌜ r ≡ noChoice answer ⌝ }
+{
+    Choice {
+        answer: answer,
+        slot: Slot::Idle,
+        ready: 0,
+        hi: 0,
+        lo: 0,
+    }
+}
+
 impl Run {
     // Every clause of coherence holds of the record.
     pub fn coherent(self) -> bool
@@ -129,7 +146,27 @@ impl Run {
         Answer::Over(self.t)
     }
 
-    // What slot t is given to and how many jobs are ready; refused, idle with 0 ready.
+    // The choice of a run that can go on; `layout` is that of the run's plan.
+    fn made(self, layout: Layout) -> Choice
+        requires { ⌜ Sound self × (layout ≡ layoutOf (self .plan)) ⌝ }
+        ensures { λ r. ⌜ r ≡ madeChoice self ⌝ }
+    {
+        let his = self.hi;
+        let los = self.lo;
+        let hi = spares::current(layout, self.t, his);
+        let lo = spares::current(layout, self.t, los);
+        let ready = self.ready();
+        let slot = self.chosen(hi, lo, ready);
+        Choice {
+            answer: Answer::Accepted,
+            slot: slot,
+            ready: u32::count_ones(ready),
+            hi: hi,
+            lo: lo,
+        }
+    }
+
+    // What slot t is given to, how many jobs are ready and the current spares; refused, idle with 0 ready and spares of 0.
     pub fn choose(self) -> Choice
         ensures { λ r. ⌜ r ≡ choose self ⌝ }
     {
@@ -137,20 +174,9 @@ impl Run {
         let layout = intervals::layout_of(p);
         let answer = self.can_go_on(layout);
         if !answers::is_accepted(answer) {
-            return Choice {
-                answer: answer,
-                slot: Slot::Idle,
-                ready: 0,
-            };
+            return no_choice(answer);
         }
-        let place = intervals::past_of(layout, self.t);
-        let ready = self.ready();
-        let slot = self.chosen(place, ready);
-        Choice {
-            answer: Answer::Accepted,
-            slot: slot,
-            ready: u32::count_ones(ready),
-        }
+        self.made(layout)
     }
 
     // The run after an accepted report: the report, expiry, the phase, then both rows.
@@ -164,6 +190,18 @@ impl Run {
         judged.refreshed(layout)
     }
 
+    // A refused report: the same run and no choice.
+    fn refused(self, answer: Answer) -> Stepped
+        ensures { λ r. ⌜ r ≡ refusedStep self answer ⌝ }
+    {
+        let choice = no_choice(answer);
+        Stepped {
+            answer: answer,
+            run: self,
+            choice: choice,
+        }
+    }
+
     // One report: the next run with the answer, or a refusal with the same run. The layout is worked out once.
     pub fn step(self, report: Report) -> Stepped
         ensures { λ r. ⌜ r ≡ step self report ⌝ }
@@ -172,31 +210,22 @@ impl Run {
         let layout = intervals::layout_of(p);
         let answer = self.can_go_on(layout);
         if !answers::is_accepted(answer) {
-            return Stepped {
-                answer: answer,
-                run: self,
-            };
+            return self.refused(answer);
         }
         if report.slot != self.t {
-            return Stepped {
-                answer: Answer::OtherSlot(self.t),
-                run: self,
-            };
+            return self.refused(Answer::OtherSlot(self.t));
         }
-        let place = intervals::past_of(layout, self.t);
-        let ready = self.ready();
-        let slot = self.chosen(place, ready);
+        let made = self.made(layout);
+        let slot = made.slot;
         let kind = report.kind;
         if !kind_fits(slot, kind) {
-            return Stepped {
-                answer: Answer::WrongKind(self.t),
-                run: self,
-            };
+            return self.refused(Answer::WrongKind(self.t));
         }
         let next = self.next_run(layout, slot, kind);
         Stepped {
             answer: Answer::Accepted,
             run: next,
+            choice: made,
         }
     }
 }

@@ -1,7 +1,6 @@
 -- The intervals of a plan worked out once: the list, and for each job the place of its interval in it.
-use Prim.Native.Nat.{ℕ, suc, _+_}
+use Prim.Native.Nat.{ℕ, suc}
 use mathlib.Core.List.{List, [], _∷_, map}
-use lib.IntN.{ℤ, pos}
 use lib.ListN.{length, take}
 use Rattle.words.specs.Words.{if_then_else_, _=?_, filled}
 use Rattle.plan.specs.declared.Plan.{Plan}
@@ -10,7 +9,6 @@ use Rattle.plan.specs.Plan.{jobsOf}
 use Rattle.intervals.specs.declared.Interval.{Interval}
 use Rattle.intervals.specs.declared.Layout.{Layout}
 use Rattle.intervals.specs.Intervals.{maxIntervals, intervals, past}
-use Rattle.intervals.specs.Spares.{nextSpare, spare}
 
 abbrev pub blankInterval : Interval
 blankInterval = record { start = 0; end = 0 }
@@ -36,23 +34,6 @@ layoutOf p = record {
 -- the intervals of a layout
 abbrev pub listed : Layout → List Interval
 listed l = take (l .count) (l .interval)
-
--- the work of those whose home is place i
-unfoldable pub workAt : ℕ → List ℕ → List ℕ → ℕ
-workAt i [] ws = 0
-workAt i (h ∷ hs) [] = 0
-workAt i (h ∷ hs) (w ∷ ws) = (if h =? i then w else 0) + workAt i hs ws
-
--- the spares of the intervals from place i on, worked out last first
-unfoldable pub sparesFrom : ℕ → ℕ → List ℕ → List ℕ → List Interval → List ℤ
-sparesFrom t i hs ws [] = []
-sparesFrom t i hs ws (x ∷ xs) =
-    let later : List ℤ = sparesFrom t (suc i) hs ws xs in
-    spare t x (workAt i hs ws) (nextSpare later) ∷ later
-
--- the row of a layout at border t; of a plan's own layout it is the plan's row (LayoutLaws)
-unfoldable pub rowIn : Layout → ℕ → List ℕ → List ℤ
-rowIn l t ws = filled maxIntervals (pos 0) (sparesFrom t 0 (l .home) ws (listed l))
 
 -- how many intervals of a layout are past at border t
 unfoldable pub pastIn : Layout → ℕ → ℕ

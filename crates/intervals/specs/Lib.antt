@@ -1,5 +1,4 @@
 pub mod Intervals
-pub mod Spares
 pub mod Layout
 pub mod ByDeadline
 pub mod Deadlines
@@ -10,6 +9,3 @@ pub mod LayoutLaws
 pub mod ByDeadlineLaws
 pub mod Laid
 pub mod LaidLaws
-pub mod Debt
-pub mod RowLaws
-pub mod DebtLaws

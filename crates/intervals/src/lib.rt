@@ -1,27 +1,21 @@
-// The intervals of a plan and the spares of its borders. Whether a plan is accepted is judged in acceptance.
+// The intervals of a plan, laid out once. Their spares are in spares.
 ghost use mathlib.Core.Path.{_≡_};
 ghost use mathlib.Core.List.{[]};
-ghost use Prim.Native.Nat.{_+_, _-_, _≤_, _<_, _^_, max, min};
+ghost use Prim.Native.Nat.{_-_, _≤_, max, min};
 ghost use lib.ListN.{take};
-ghost use lib.IntN.{subℕ};
 ghost use Rattle.plan.specs.Limits.{maxSlots, maxJobs};
 ghost use Rattle.intervals.specs.Intervals.{intervals};
-ghost use Rattle.intervals.specs.Spares.{hiLeft, loLeft};
-ghost use Rattle.intervals.specs.Layout.{layoutOf, rowIn, pastIn};
+ghost use Rattle.intervals.specs.Layout.{layoutOf, pastIn};
 ghost use Rattle.intervals.specs.Deadlines.{Windowed};
 ghost use Rattle.intervals.specs.Laid.{laid, allIntervals};
-ghost use Rattle.intervals.specs.Debt.{room, asked};
 use by_deadline::homes_by;
 use by_deadline::longest_windows;
 use by_deadline::next_deadline;
 use by_deadline::places_by_end;
-use debt::work_by_home;
 use plan::Job;
-use plan::Level;
 use plan::Plan;
 
 mod by_deadline;
-pub mod debt;
 
 // Every deadline ends an interval, and an empty one may stand before each and after the last.
 pub const INTERVALS: usize = 65;
@@ -41,39 +35,24 @@ pub struct Layout {
 // ---- numbers
 
 // a - b, not below 0.
-fn left(a: u16, b: u16) -> u16
+pub fn left(a: u16, b: u16) -> u16
     ensures { λ r. ⌜ r ≡ a - b ⌝ }
 {
     if b <= a { a - b } else { 0 }
 }
 
-// a - b, not below 0.
-fn over(a: u32, b: u32) -> u32
-    ensures { λ r. ⌜ r ≡ a - b ⌝ }
-{
-    if b <= a { a - b } else { 0 }
-}
-
-fn larger(a: u16, b: u16) -> u16
+pub fn larger(a: u16, b: u16) -> u16
     ensures { λ r. ⌜ r ≡ max a b ⌝ }
 {
     if a <= b { b } else { a }
 }
 
 // n, at most the limit: how many entries of an array a record's count takes.
-fn capped(n: u16, limit: usize) -> usize
+pub fn capped(n: u16, limit: usize) -> usize
     ensures { λ r. ⌜ r ≡ min n limit ⌝ }
 {
     let w = plan::wide(n);
     if w <= limit { w } else { limit }
-}
-
-// a - b as a signed number.
-fn signed(a: u32, b: u32) -> i32
-    requires { ⌜ (a < 2 ^ 30) × (b < 2 ^ 30) ⌝ }
-    ensures { λ r. ⌜ r ≡ subℕ a b ⌝ }
-{
-    a as i32 - b as i32
 }
 
 // ---- intervals
@@ -176,65 +155,4 @@ pub fn past_of(l: Layout, t: u16) -> usize
         i += 1;
     }
     i
-}
-
-// ---- spares
-
-// The work a job asks of the HI spares: only a live HI job asks any.
-pub fn hi_left(j: Job, live: bool, given: u16) -> u16
-    ensures { λ r. ⌜ r ≡ hiLeft j live given ⌝ }
-{
-    if !live {
-        return 0;
-    }
-    let level = j.level;
-    match level {
-        Level::Lo => 0,
-        Level::Hi => left(j.hi, given),
-    }
-}
-
-// The work a job asks of the LO spares: every live job, of either level.
-pub fn lo_left(j: Job, live: bool, given: u16) -> u16
-    ensures { λ r. ⌜ r ≡ loLeft j live given ⌝ }
-{
-    if live { left(j.lo, given) } else { 0 }
-}
-
-// What an interval has left at border t.
-fn room_left(x: Interval, t: u16) -> u32
-    ensures { λ r. ⌜ (r ≡ room t x) × (r < 65536) ⌝ }
-{
-    let from = larger(x.start, t);
-    left(x.end, from) as u32
-}
-
-// What is asked of an interval at border t: its work and the later ones' debt, nothing once it is past.
-fn asked_of(x: Interval, t: u16, work: u32, debt: u32) -> u32
-    requires { ⌜ work + debt < 2 ^ 30 ⌝ }
-    ensures { λ r. ⌜ r ≡ asked t x work debt ⌝ }
-{
-    if x.end <= t { 0 } else { work + debt }
-}
-
-// The spares of a layout at border t for this work, a number a job. Worked out last first; the debt is what later intervals borrow.
-pub fn row_of(l: Layout, t: u16, work: [u16; plan::JOBS]) -> [i32; INTERVALS]
-    ensures { λ r. ⌜ r ≡ rowIn l t work ⌝ }
-{
-    let home = l.home;
-    let sums = work_by_home(home, work);
-    let interval = l.interval;
-    let mut row = [0i32; INTERVALS];
-    let mut debt: u32 = 0;
-    let mut i = capped(l.count, INTERVALS);
-    while 0 < i {
-        i -= 1;
-        let x = interval[i];
-        let free = room_left(x, t);
-        let own = sums[i];
-        let ask = asked_of(x, t, own, debt);
-        row[i] = signed(free, ask);
-        debt = over(ask, free);
-    }
-    row
 }

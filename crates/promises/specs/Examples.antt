@@ -3,6 +3,7 @@
 use Prim.Native.Nat.{ℕ}
 use mathlib.Core.Path.{_≡_, refl, sym}
 use mathlib.Core.List.{List}
+use lib.IntN.{pos}
 use lib.ListN.{length}
 use Rattle.answers.specs.declared.Answer.the-variants.{Accepted, Overdrawn, Incoherent, Over, OtherSlot, WrongKind}
 use Rattle.acceptance_promise.specs.Plans.{A, B, oneSlot}
@@ -13,9 +14,9 @@ use Rattle.entries.specs.declared.Kind.the-variants.{End, More, None}
 use Rattle.executive.specs.declared.Report.{Report}
 use Rattle.executive.specs.declared.Run.{Run}
 use Rattle.executive.specs.Run.{blankRun, start, entryNo}
-use Rattle.executive.specs.Choice.{choose}
-use Rattle.executive.specs.Step.{step}
-use Rattle.intervals.specs.Spares.{noSpares}
+use Rattle.executive.specs.Choice.{noChoice, choose}
+use Rattle.executive.specs.Step.{refusedStep, step}
+use Rattle.spares.specs.Spares.{noSpares}
 use Rattle.promises.specs.Compute.{everything}
 use Rattle.promises.specs.Told.{Sequence, none, _▷_}
 use Rattle.promises.specs.Executives.{ours, held}
@@ -77,11 +78,11 @@ refused-between = (refl, refl, refl)
 -- its job has the slot; then t = N, both rows are 0, and both calls are refused 11 at 1
 pub one-slot-runs :
     let over : Run = held ours oneSlot (none ▷ of 0 More) .run in
-    (choose (start oneSlot .run) ≡ record { answer = Accepted; slot = Slot.Job 1; ready = 1 })
+    (choose (start oneSlot .run) ≡ record { answer = Accepted; slot = Slot.Job 1; ready = 1; hi = pos 0; lo = pos 0 })
     × (over ≡ record { plan = oneSlot; t = 1; phase = T; hi = noSpares; lo = noSpares; entry = over .entry })
     × (entryNo over 1 ≡ record { standing = Cut 1; given = 1 })
-    × (choose over ≡ record { answer = Over 1; slot = Slot.Idle; ready = 0 })
-    × (step over (of 1 None) ≡ record { answer = Over 1; run = over })
+    × (choose over ≡ noChoice (Over 1))
+    × (step over (of 1 None) ≡ refusedStep over (Over 1))
 unfolding everything held
 one-slot-runs = (refl, refl, refl, refl, refl)
 

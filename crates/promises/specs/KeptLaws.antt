@@ -15,7 +15,7 @@ use Rattle.windows.specs.WindowLaws.{met, in-time-mono}
 use Rattle.plan.specs.declared.Plan.{Plan}
 use Rattle.plan.specs.Limits.{maxJobs}
 use Rattle.plan.specs.Plan.{jobNo, isHi, blankJob, tableAt}
-use Rattle.intervals.specs.Spares.{row, current, hiLeft}
+use Rattle.spares.specs.Spares.{row, current, hiLeft}
 use Rattle.well_formed.specs.InOrder.{jobAt, InOrder, JobOf}
 use Rattle.spare_theory.specs.Promise.{windowsOf, A2}
 use Rattle.spare_theory.specs.CountLaws.{tab-start}
@@ -28,6 +28,7 @@ use Rattle.executive.specs.declared.Phase.the-variants.{T, H}
 use Rattle.executive.specs.declared.Run.{Run}
 use Rattle.executive.specs.declared.Report.{Report}
 use Rattle.entries.specs.Entry.{live, freshEntry, standingHolds}
+use Rattle.spares.specs.Work.{workEach, workLeft}
 use Rattle.executive.specs.Run.{freshHi, hiWork, currentHi, newRun}
 use Rattle.words.specs.ZipLaws.{zipped-at}
 use Rattle.executive.specs.Choice.{chosen, readyHi}
@@ -160,7 +161,7 @@ module _ (r : Run) (w : Recorded r) (report : Report) (ok : Taken r report) wher
 
   -- the work of the HI row is the HI work left
   work-at : (k : ℕ) → k < r .plan .jobs → getD (hiWork r) k 0 ≡ hiRemaining (r .plan) (givenAt r) (liveAt r) k
-  unfolding hiWork hiRemaining
+  unfolding hiWork workEach workLeft hiRemaining
   work-at k l = zipped-at (λ j e. hiLeft j (live e) (e .given)) (r .plan .job) (r .entry) (r .plan .jobs) (js-fit r w) (es-fit r w) k blankJob freshEntry 0 l
 
   -- the current HI spare is above 0: one slot to spare

@@ -16,7 +16,7 @@ use Rattle.plan.specs.declared.Job.{Job}
 use Rattle.plan.specs.declared.Plan.{Plan}
 use Rattle.plan.specs.Limits.{maxJobs}
 use Rattle.plan.specs.Plan.{jobsOf, jobNo, blankJob}
-use Rattle.intervals.specs.Spares.{hiLeft, loLeft}
+use Rattle.spares.specs.Spares.{hiLeft, loLeft, sameSpare, sameRow}
 use Rattle.acceptance.specs.Acceptance.{acceptance, check9}
 use Rattle.answers.specs.RefusalLaws.{unless-holds, both-accept}
 use Rattle.acceptance_promise.specs.Laws.{passes-in-order}
@@ -28,10 +28,10 @@ use Rattle.executive.specs.declared.Run.{Run}
 use Rattle.ready.specs.declared.Slot.{Slot}
 use Rattle.executive.specs.declared.Report.{Report}
 use Rattle.entries.specs.Entry.{live, freshEntry, standingHolds}
+use Rattle.spares.specs.Work.{workEach, workLeft}
 use Rattle.executive.specs.Run.{entryNo, freshHi, hiWork, newRun, freshLo, loWork, start}
-use Rattle.executive.specs.Coherent.{entriesHold, sameSpare, sameRow, coherent}
-use Rattle.executive.specs.Choice.{chosen, ready, choose, canGoOn}
-use Rattle.ready.specs.Ready.{howMany}
+use Rattle.executive.specs.Coherent.{entriesHold, coherent}
+use Rattle.executive.specs.Choice.{chosen, choose, canGoOn, madeChoice}
 use Rattle.executive.specs.Step.{nextRun, kindFits, reportAnswer, step}
 use Rattle.promises.specs.Told.{jobRun}
 use Rattle.entries.specs.declared.Kind.{Kind}
@@ -77,7 +77,7 @@ unfolding step reportAnswer canGoOn accepted
 taken-accepted r report w = rw (w .whole, lt-ltb (r .t) (r .plan .slots) (w .more), eq-eqb (report .slot) (r .t) (w .slot), w .fits)
 
 -- the choice of a coherent run that is not over is accepted
-pub choose-accepted : (r : Run) → coherent r ≡ true → r .t < r .plan .slots → choose r ≡ record { answer = Accepted; slot = chosen r; ready = howMany (ready r) }
+pub choose-accepted : (r : Run) → coherent r ≡ true → r .t < r .plan .slots → choose r ≡ madeChoice r
 unfolding choose canGoOn accepted
 choose-accepted r whole more = rw (whole, lt-ltb (r .t) (r .plan .slots) more)
 
@@ -219,7 +219,7 @@ module _ (p : Plan) (sz : Sized p) (well : accepted (wellFormed p) ≡ true) whe
   start-holds k l = rw (fresh-at k l) (let m : k - 1 < p .jobs = (let x = l .0 in let y = l .1 in omega arith) in let a = ok .some (k - 1) m in let b = ok .budget (k - 1) m in lt-ltb 0 (jobNo p k .hi) (omega arith))
 
   pub start-recorded : Recorded (newRun p)
-  unfolding freshHi freshLo hiWork loWork
+  unfolding freshHi freshLo hiWork workEach workLeft loWork
   start-recorded = record {
     well = well;
     sized = sz;

@@ -7,6 +7,7 @@ use mathlib.Core.Logic.{_⊎_, inl, inr, ⊎-elim}
 use mathlib.Core.Bool.{Bool, true, false}
 use mathlib.Core.List.{List}
 use lib.ListN.{length}
+use lib.IntN.{pos}
 use Rattle.plan.specs.declared.Plan.{Plan}
 use Rattle.answers.specs.declared.Answer.the-variants.{Accepted, Incoherent, Over, OtherSlot, WrongKind}
 use Rattle.words.specs.Words.{if_then_else_, _<?_, _=?_}
@@ -22,13 +23,13 @@ use Rattle.ready.specs.declared.Slot.{Slot}
 use Rattle.executive.specs.declared.Report.{Report}
 use Rattle.executive.specs.Run.{start, blankRun}
 use Rattle.executive.specs.Coherent.{coherent}
-use Rattle.executive.specs.Choice.{chosen, choose, canGoOn}
+use Rattle.executive.specs.Choice.{chosen, choose, canGoOn, madeChoice}
 use Rattle.executive.specs.Step.{kindFits, step, reportAnswer}
 
 -- ---- the answers of calls on a run: 10, 11, 12, 13 in that order, at place 0, t, t, t
 
 pub choice-answers : (r : Run) → choose r .answer ≡ (if coherent r then if r .t <? r .plan .slots then Accepted else Over (r .t) else Incoherent)
-unfolding choose canGoOn accepted
+unfolding choose madeChoice canGoOn accepted
 choice-answers r = go (coherent r) refl (r .t <? r .plan .slots) refl
   where
     go : (a : Bool) → coherent r ≡ a → (b : Bool) → (r .t <? r .plan .slots) ≡ b → choose r .answer ≡ (if a then if b then Accepted else Over (r .t) else Incoherent)
@@ -98,14 +99,14 @@ refused-start p no-go = go (accepted (acceptance p)) refl
     go true e = absurd (no-go (rw e))
     go false e = rw e
 
--- a refused choice is idle with 0 ready
-pub refused-choice : (r : Run) → (choose r .answer ≡ Accepted → ⊥) → (choose r .slot ≡ Slot.Idle) × (choose r .ready ≡ 0)
-unfolding choose
+-- a refused choice is idle with 0 ready and spares of 0
+pub refused-choice : (r : Run) → (choose r .answer ≡ Accepted → ⊥) → (choose r .slot ≡ Slot.Idle) × (choose r .ready ≡ 0) × (choose r .hi ≡ pos 0) × (choose r .lo ≡ pos 0)
+unfolding choose madeChoice
 refused-choice r no-go = go (accepted (canGoOn r)) refl
   where
-    go : (b : Bool) → accepted (canGoOn r) ≡ b → (choose r .slot ≡ Slot.Idle) × (choose r .ready ≡ 0)
+    go : (b : Bool) → accepted (canGoOn r) ≡ b → (choose r .slot ≡ Slot.Idle) × (choose r .ready ≡ 0) × (choose r .hi ≡ pos 0) × (choose r .lo ≡ pos 0)
     go true e = absurd (no-go (rw e))
-    go false e = (rw e, rw e)
+    go false e = (rw e, rw e, rw e, rw e)
 
 -- a refused analysis gives no intervals and spares of 0
 pub refused-analysis : (p : Plan) → (analysis p .answer ≡ Accepted → ⊥) → analysis p ≡ refusedAnalysis (acceptance p)

@@ -7,7 +7,7 @@ use lib.ListN.{length, take}
 use Rattle.plan.specs.declared.Plan.{Plan}
 use Rattle.answers.specs.declared.Answer.the-variants.{Accepted, Overfull, Overdrawn}
 use Rattle.intervals.specs.Intervals.{intervals}
-use Rattle.intervals.specs.Spares.{row}
+use Rattle.spares.specs.Spares.{row}
 use Rattle.acceptance.specs.Acceptance.{acceptance}
 use Rattle.acceptance.specs.Analysis.{hiAtStart, loAtStart}
 use Rattle.acceptance_promise.specs.Plans.{A, B, C, one, borrowing}

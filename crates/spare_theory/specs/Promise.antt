@@ -6,7 +6,7 @@ use Rattle.words.specs.Words.{_<?_}
 use Rattle.windows.specs.Windows.{Windows, within, InTime}
 use Rattle.plan.specs.declared.Plan.{Plan}
 use Rattle.plan.specs.Plan.{isHi, tableAt}
-use Rattle.intervals.specs.Spares.{hiLeft}
+use Rattle.spares.specs.Spares.{hiLeft}
 use Rattle.well_formed.specs.InOrder.{jobAt, tab}
 
 -- the windows of the plan's jobs

@@ -20,7 +20,7 @@ use Rattle.plan.specs.Plan.{jobsOf, blankJob}
 use Rattle.intervals.specs.declared.Interval.{Interval}
 use Rattle.intervals.specs.Intervals.{maxIntervals, intervals, past}
 use Rattle.intervals.specs.Covers.{intervalAt}
-use Rattle.intervals.specs.Spares.{remaining, atMost0, nextSpare, spare, spares, row, current}
+use Rattle.spares.specs.Spares.{remaining, atMost0, nextSpare, spare, spares, row, current}
 use Rattle.well_formed.specs.InOrder.{jobAt, InOrder}
 use Rattle.spare_theory.specs.Promise.{windowsOf}
 use Rattle.well_formed.specs.InOrderLaws.{among-jobs, jobs-length}

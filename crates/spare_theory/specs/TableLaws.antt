@@ -14,7 +14,7 @@ use Rattle.windows.specs.SlotLaws.{given-none}
 use Rattle.plan.specs.declared.Job.{Job}
 use Rattle.plan.specs.declared.Plan.{Plan}
 use Rattle.plan.specs.Plan.{isHi, tableAt}
-use Rattle.intervals.specs.Spares.{hiLeft}
+use Rattle.spares.specs.Spares.{hiLeft}
 use Rattle.well_formed.specs.InOrder.{jobAt, tab, InOrder}
 use Rattle.spare_theory.specs.Promise.{windowsOf, hiOf, asked, A1, A2}
 use Rattle.spare_theory.specs.CountLaws.{tab-start, tab-split, tab-mono}

@@ -9,8 +9,18 @@ blank-plan-requires c κs = search needs
 fresh-entries-requires : tie.Need-fresh-entries-requires
 fresh-entries-requires c κs = search needs
 
+blank-row-requires : tie.Need-blank-row-requires
+blank-row-requires c κs = search needs
+
+blank-row-requires-2 : tie.Need-blank-row-requires-2
+blank-row-requires-2 c κs = search needs
+
 returns : tie.Need-returns
-returns c = rw (c .before .blank-plan .ensures, c .fresh-entries .ensures)
+returns c =
+    let lo = c in
+    let hi = c .before in
+    let e = hi .before in
+    rw (e .before .blank-plan .ensures, e .fresh-entries .ensures, hi .blank-row .ensures, lo .blank-row2 .ensures)
 
 pub blank-run-spec : {M : Type 1} → statement M
-blank-run-spec = tie.close (tie.spec blank-plan-requires fresh-entries-requires returns)
+blank-run-spec = tie.close (tie.spec blank-plan-requires fresh-entries-requires blank-row-requires blank-row-requires-2 returns)

@@ -1,30 +1,24 @@
--- `run::put_step` meets its promise: the choice and the current spares by place are those of the definition.
+-- `run::put_step` meets its promise: the line of the run and the choice.
 use borrow.Author.Needs.{needs}
-use mathlib.Core.Path.{_∙_}
+use mathlib.Core.Path.{_≡_}
+use Prim.Native.Nat.{ℕ}
+use lib.IntN.{ℤ}
 use mir.Facts.{toZ-ofZ}
 use mir.Syntax.{w32}
+use Rattle.executive.specs.declared.Run.{Run}
+use Rattle.executive.specs.declared.Choice.{Choice}
+use Rattle.console.specs.Run.{jobNumber}
 use Rattle.console.specs.Pieces.{piece-is}
-use Rattle.console.specs.Turns.{step-line}
+use Rattle.console.specs.Printed.{stepLineOf, stepLineFrom}
 use Rattle.console.proofs.run.put_step.Statement.{statement}
 use Rattle.console.proofs.run.put_step.Tie as tie
 
-choose-requires : tie.Need-choose-requires
-choose-requires c κs = search needs
+-- the values that are printed are those of the choice
+values-are : (r : Run) (choice : Choice) (job : ℕ) (hi lo : ℤ) → job ≡ jobNumber (choice .slot) → hi ≡ choice .hi → lo ≡ choice .lo → stepLineOf (r .t) job (r .phase) hi lo ≡ stepLineFrom r choice
+values-are r choice job hi lo ej eh el = rw (ej, eh, el)
 
 job-number-requires : tie.Need-job-number-requires
 job-number-requires c κs = search needs
-
-layout-of-requires : tie.Need-layout-of-requires
-layout-of-requires c κs = search needs
-
-past-of-requires : tie.Need-past-of-requires
-past-of-requires c κs = search needs
-
-spare-at-requires : tie.Need-spare-at-requires
-spare-at-requires c κs = search needs
-
-spare-at-requires-2 : tie.Need-spare-at-requires-2
-spare-at-requires-2 c κs = search needs
 
 put-step-line-requires : tie.Need-put-step-line-requires
 put-step-line-requires c κs = search needs
@@ -35,14 +29,9 @@ same-length c = search needs
 returns : tie.Need-returns
 returns c =
     let p = c .before .before in
-    let lo = p .before .before in
-    let hi = lo .before .before in
-    let past = hi .before .before in
-    let laid = past .before in
-    let job = laid .before .before in
-    let choice = job .before in
-    let s = choice .before .before in
-    piece-is (step-line _ (s .pre .1) _ (choice .choose .ensures) _ (laid .layout-of .ensures) _ _ _ _ (job .job-number .ensures) (past .past-of .ensures) (toZ-ofZ {w = w32} (record { sfits = hi .spare-at .ok }) ∙ hi .spare-at .ensures) (toZ-ofZ {w = w32} (record { sfits = lo .spare-at2 .ok }) ∙ lo .spare-at2 .ensures)) (p .put-step-line .ensures)
+    let job = p .before .before .before .before in
+    let a = job .before .before .args in
+    piece-is (values-are (a .run) (a .choice) _ _ _ (job .job-number .ensures) (toZ-ofZ {w = w32} {z = a .choice .hi} (search needs)) (toZ-ofZ {w = w32} {z = a .choice .lo} (search (needs, p .before .before .struct-told .given .1 .1 .1)))) (p .put-step-line .ensures)
 
 pub put-step-spec : {M : Type 1} → statement M
-put-step-spec = tie.close (tie.spec choose-requires job-number-requires layout-of-requires past-of-requires spare-at-requires spare-at-requires-2 put-step-line-requires same-length returns)
+put-step-spec = tie.close (tie.spec job-number-requires put-step-line-requires same-length returns)

@@ -1,13 +1,13 @@
--- `choose` meets its contract: refused as the call is, otherwise the chosen slot and the ones of the ready set.
+-- `choose` meets its contract: refused as the call is, otherwise the choice that is made.
 use mathlib.Core.Bool.{true}
-use mathlib.Core.Path.{_≡_}
+use mathlib.Core.Path.{_≡_, _∙_}
 use Prim.Native.Nat.{_<_}
 use Rattle.words.specs.ListLaws.{long}
 use Rattle.executive.specs.Coherent.{coherent}
 use Rattle.executive.specs.Sound.{Sound}
 use borrow.Author.Tests.{not-true, not-false}
 use Rattle.executive.specs.CoherentLaws.{sound}
-use Rattle.executive.specs.CallLaws.{place-of-current, went-on, choice-refused, choice-made}
+use Rattle.executive.specs.CallLaws.{went-on, choice-refused, choice-made}
 use borrow.Author.Needs.{needs}
 use Rattle.executive.proofs.Run.choose.Statement.{statement}
 use Rattle.executive.proofs.Run.choose.Tie as tie
@@ -28,24 +28,21 @@ can-go-on-requires c κs = search needs
 is-accepted-requires : tie.Need-is-accepted-requires
 is-accepted-requires c κs = search needs
 
+no-choice-requires : tie.Need-no-choice-requires
+no-choice-requires c κs = search needs
+
 returns : tie.Need-returns
-returns c = choice-refused _ _ _ (c .before .before .can-go-on .ensures) (c .before .is-accepted .ensures) (not-true _ (c .if1 .taken))
+returns c =
+    let t = c .before in
+    c .no-choice .ensures ∙ choice-refused _ _ _ (t .before .before .can-go-on .ensures) (t .before .is-accepted .ensures) (not-true _ (t .if1 .taken))
 
-past-of-requires : tie.Need-past-of-requires
-past-of-requires c κs = search needs
-
-ready-requires : tie.Need-ready-requires
-ready-requires c κs = search needs
-
-chosen-requires : tie.Need-chosen-requires
-chosen-requires c κs =
-    let e = c .before .before in
-    (sound-run e, place-of-current _ _ _ _ (e .before .before .before .layout-of .ensures) (c .before .past-of .ensures), c .ready .ensures)
+made-requires : tie.Need-made-requires
+made-requires c κs = (sound-run c, c .before .before .before .layout-of .ensures)
 
 returns-2 : tie.Need-returns-2
 returns-2 c =
-    let e = c .before .before .before in
-    choice-made _ _ _ (e .before .before .can-go-on .ensures) (e .before .is-accepted .ensures) (not-false _ (e .if1 .left)) _ _ (c .chosen .ensures) (c .before .ready .ensures)
+    let e = c .before in
+    choice-made _ _ _ (e .before .before .can-go-on .ensures) (e .before .is-accepted .ensures) (not-false _ (e .if1 .left)) _ (c .made .ensures)
 
 pub choose-spec : {M : Type 1} → statement M
 choose-spec =
@@ -54,8 +51,7 @@ choose-spec =
     layout-of-requires
     can-go-on-requires
     is-accepted-requires
+    no-choice-requires
     returns
-    past-of-requires
-    ready-requires
-    chosen-requires
+    made-requires
     returns-2)

@@ -4,6 +4,10 @@ use Rattle.executive.specs.Choice.{members}
 use Rattle.executive.specs.MemberLaws.{Full}
 use Rattle.executive.specs.ChoiceLaws.{open-slot, hi-slot}
 use borrow.Author.Needs.{needs}
+use mathlib.Core.Path.{_∙_}
+use mir.Facts.{toZ-ofZ}
+use mir.Syntax.{w32}
+use mir.Val.{toZ, ofZ}
 use Rattle.executive.proofs.Run.chosen_h.Statement.{statement}
 use Rattle.executive.proofs.Run.chosen_h.Tie as tie
 
@@ -19,8 +23,8 @@ earliest-requires c κs = search needs
 returns : tie.Need-returns
 returns c =
     let a = c .before .before in
-    let s = a .before .before .before .before .before in
-    open-slot (s .args .self) (s .args .place) _ _ _ (s .pre .1) (a .open-to-all .ensures) (full s) (c .before .if1 .taken) (s .pre .2) (c .earliest .ensures)
+    let s = a .before .before .before in
+    open-slot (s .args .self) (toZ w32 (ofZ w32 (s .args .hi))) (toZ w32 (ofZ w32 (s .args .lo))) _ _ _ (toZ-ofZ {w = w32} (search needs) ∙ s .pre .1) (toZ-ofZ {w = w32} (search needs) ∙ s .pre .2) (a .open-to-all .ensures) (full s) (c .before .if1 .taken) (s .pre .3) (c .earliest .ensures)
 
 ready-set-requires : tie.Need-ready-set-requires
 ready-set-requires c κs = search needs
@@ -33,8 +37,8 @@ unfolding members
 returns-2 c =
     let e = c .before .before .before in
     let a = e .before in
-    let s = a .before .before .before .before .before in
-    hi-slot (s .args .self) (s .args .place) _ _ _ (s .pre .1) (a .open-to-all .ensures) (full s) (e .if1 .left) (c .before .ready-set .ensures) (c .earliest2 .ensures)
+    let s = a .before .before .before in
+    hi-slot (s .args .self) (toZ w32 (ofZ w32 (s .args .hi))) (toZ w32 (ofZ w32 (s .args .lo))) _ _ _ (toZ-ofZ {w = w32} (search needs) ∙ s .pre .1) (toZ-ofZ {w = w32} (search needs) ∙ s .pre .2) (a .open-to-all .ensures) (full s) (e .if1 .left) (c .before .ready-set .ensures) (c .earliest2 .ensures)
 
 pub chosen-h-spec : {M : Type 1} → statement M
 chosen-h-spec =

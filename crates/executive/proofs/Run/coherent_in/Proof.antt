@@ -8,9 +8,10 @@ use Rattle.well_formed.specs.InOrderLaws.{in-order}
 use Rattle.words.specs.ListLaws.{long}
 use Rattle.executive.specs.declared.Run.{Run}
 use Rattle.executive.specs.Run.{freshHi, freshLo}
-use Rattle.executive.specs.Coherent.{entriesHold, sameRow, coherent}
+use Rattle.executive.specs.Coherent.{entriesHold, coherent}
+use Rattle.spares.specs.Spares.{sameRow}
 use Rattle.executive.specs.MemberLaws.{Full}
-use Rattle.executive.specs.WorkLaws.{fresh-hi, fresh-lo}
+use Rattle.executive.specs.FreshLaws.{fresh-of-run}
 use borrow.Author.Needs.{needs}
 use Rattle.executive.proofs.Run.coherent_in.Statement.{statement}
 use Rattle.executive.proofs.Run.coherent_in.Tie as tie
@@ -37,17 +38,10 @@ holds : (c : tie.Else3) → entriesHold (run (passed c)) ≡ true
 holds c = sym (held (c .before)) ∙ not-false _ (c .if3 .left)
 
 -- the rows are the fresh ones
-hi-fresh : (c : tie.After-row-of) → c .row-of .result ≡ freshHi (run (passed (c .before .before .before .before)))
-hi-fresh c =
-    let w = c .before .before .before in
-    let e = passed (w .before) in
-    fresh-hi (run e) _ _ (full e) (e .before .before .before .before .pre) (w .work-of .ensures) _ (c .row-of .ensures)
-
-lo-fresh : (c : tie.After-row-of2) → c .row-of2 .result ≡ freshLo (run (passed (c .before .before .before .before .before .before .before .before .before)))
-lo-fresh c =
-    let w = c .before .before .before .before .before .before .before .before in
-    let e = passed (w .before) in
-    fresh-lo (run e) _ _ (full e) (e .before .before .before .before .pre) (w .work-of .ensures) _ (c .row-of2 .ensures)
+fresh : (c : tie.After-rows-of) → let r = run (passed (c .before)) in (c .rows-of .result .hi ≡ freshHi r) × (c .rows-of .result .lo ≡ freshLo r)
+fresh c =
+    let e = passed (c .before) in
+    fresh-of-run (run e) _ _ (full e) (e .before .before .before .before .pre) (c .rows-of .ensures)
 
 well-formed-requires : tie.Need-well-formed-requires
 well-formed-requires c κs = search needs
@@ -75,11 +69,8 @@ returns-3 c =
     let n = c .before .before .before .before .before in
     rw (passes (n .before .before .before), le-leb _ _ (n .if2 .left), sym (held (c .before)) ∙ not-true _ (c .if3 .taken))
 
-work-of-requires : tie.Need-work-of-requires
-work-of-requires c κs = full (passed c) .few
-
-row-of-requires : tie.Need-row-of-requires
-row-of-requires c κs = search needs
+rows-of-requires : tie.Need-rows-of-requires
+rows-of-requires c κs = search needs
 
 same-row-requires : tie.Need-same-row-requires
 same-row-requires c κs = search needs
@@ -87,12 +78,9 @@ same-row-requires c κs = search needs
 returns-4 : tie.Need-returns-4
 unfolding coherent
 returns-4 c =
-    let f = c .before .before in
-    let h = f .before .before .before .before in
-    rw (passes (passed h), le-leb _ _ (h .before .before .before .before .before .if2 .left), holds h, ap (sameRow _) (sym (hi-fresh f)), sym (c .before .same-row .ensures) ∙ not-true _ (c .if4 .taken))
-
-row-of-requires-2 : tie.Need-row-of-requires-2
-row-of-requires-2 c κs = search needs
+    let w = c .before .before .before .before in
+    let h = w .before in
+    rw (passes (passed h), le-leb _ _ (h .before .before .before .before .before .if2 .left), holds h, ap (sameRow _) (sym (fresh w .0)), sym (c .before .same-row .ensures) ∙ not-true _ (c .if4 .taken))
 
 same-row-requires-2 : tie.Need-same-row-requires-2
 same-row-requires-2 c κs = search needs
@@ -100,10 +88,10 @@ same-row-requires-2 c κs = search needs
 returns-5 : tie.Need-returns-5
 unfolding coherent
 returns-5 c =
-    let s = c .before .before .before .before in
-    let f = s .before .before in
-    let h = f .before .before .before .before in
-    rw (passes (passed h), le-leb _ _ (h .before .before .before .before .before .if2 .left), holds h, ap (sameRow _) (sym (hi-fresh f)), sym (s .before .same-row .ensures) ∙ not-false _ (s .if4 .left), ap (sameRow _) (sym (lo-fresh (c .before)))) (c .same-row2 .ensures)
+    let s = c .before .before .before in
+    let w = s .before .before .before .before in
+    let h = w .before in
+    rw (passes (passed h), le-leb _ _ (h .before .before .before .before .before .if2 .left), holds h, ap (sameRow _) (sym (fresh w .0)), sym (s .before .same-row .ensures) ∙ not-false _ (s .if4 .left), ap (sameRow _) (sym (fresh w .1))) (c .same-row2 .ensures)
 
 pub coherent-in-spec : {M : Type 1} → statement M
 coherent-in-spec =
@@ -116,10 +104,8 @@ coherent-in-spec =
     cast-n
     entries-hold-requires
     returns-3
-    work-of-requires
-    row-of-requires
+    rows-of-requires
     same-row-requires
     returns-4
-    row-of-requires-2
     same-row-requires-2
     returns-5)

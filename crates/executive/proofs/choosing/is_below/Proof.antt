@@ -1,5 +1,4 @@
--- `is_below` meets its contract: beyond the row there is 0, within it the test said of the number and not of its bits.
-use lib.ListN.{getD}
+-- `is_below` meets its contract: the test of the number, not of its bits.
 use Prim.Native.Nat.{zero-le}
 use mathlib.Core.Path.{_≡_, refl}
 use borrow.Author.Tests.{le-ltb}
@@ -8,12 +7,6 @@ use lib.Signed.{ltZ}
 use mir.Facts.{toZ-ofZ}
 use mir.Syntax.{w32}
 use Rattle.words.specs.Words.{below0}
-use mathlib.Core.Path.{_≡_}
-use native.Mathlib.Omega.{arith}
-use lib.IntN.{pos}
-use lib.ListN.{length, List·getD-eq-default}
-use Rattle.intervals.specs.Intervals.{maxIntervals}
-use borrow.Author.Needs.{needs}
 use Rattle.executive.proofs.choosing.is_below.Statement.{statement}
 use Rattle.executive.proofs.choosing.is_below.Tie as tie
 
@@ -22,18 +15,7 @@ below (pos n) = le-ltb n 0 zero-le
 below (negsuc n) = refl
 
 returns : tie.Need-returns
-returns c =
-    let l : length (c .before .args .t1) ≡ maxIntervals = search needs in
-    rw (List·getD-eq-default (c .before .args .t1) (pos 0) {n = c .before .args .place} (omega arith))
-
-mul-spare : tie.Need-mul-spare
-mul-spare c = search needs
-
-array-copy-out-spare : tie.Need-array-copy-out-spare
-array-copy-out-spare c = search needs
-
-returns-2 : tie.Need-returns-2
-returns-2 c = rw (toZ-ofZ {w = w32} (record { sfits = c .spare .given })) (below (getD (c .before .before .args .t1) (c .before .before .args .place) (pos 0)))
+returns c = rw (toZ-ofZ {w = w32} (c .fits .spare)) (below (c .args .spare))
 
 pub is-below-spec : {M : Type 1} → statement M
-is-below-spec = tie.close (tie.spec returns mul-spare array-copy-out-spare returns-2)
+is-below-spec = tie.close (tie.spec returns)
