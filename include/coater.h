@@ -31,8 +31,8 @@ uint16_t embed_read(const uint8_t *text, size_t length, size_t places[2]);
  * was where the reader refuses the text or it does not fit. */
 size_t embed_write(const uint8_t *text, size_t length, uint8_t *out, size_t room);
 
-/* Reads a plan and analyses it. Answers 0, or the first refusal: the reader's, or one of the checks 2 to 9. The place is a
- * job for 4, 5, 7, a slot for 6, a border for 9; 8 has two, the window's first border and its last. */
+/* Reads a plan and analyses it. Answers 0, or the first refusal: the reader's, or one of the checks 2 to 9 and 17. The place is a
+ * job for 4, 5, 7, 17, a slot for 6, a border for 9; 8 has two, the window's first border and its last. */
 uint16_t embed_analyse(const uint8_t *text, size_t length, size_t places[2]);
 
 /* Reads a plan, starts it, and reports once for each kind, each time for the slot whose turn it is. Answers 0, or the

@@ -21,5 +21,5 @@ impl Rules {
     pub const BASE: Rules = Rules { dead_slot: false, chopped: false, missed: false, ends: false, calls: false };
 
     /// The rules that the product has.
-    pub const LANDED: Rules = Rules { ..Rules::BASE };
+    pub const LANDED: Rules = Rules { chopped: true, ..Rules::BASE };
 }

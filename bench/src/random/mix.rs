@@ -15,7 +15,7 @@ enum What {
 /// The cases that the comparison has to see, each with the least times in every 1,000 inputs, about half of what
 /// comes. A rule that is new has its case here and nowhere else. No text leads to an incoherent record: 10 is counted
 /// to show that it stays away.
-const CASES: [(What, usize); 42] = [
+const CASES: [(What, usize); 44] = [
     (What::Check(0), 250),
     (What::Check(1), 90),
     (What::Check(2), 5),
@@ -26,6 +26,7 @@ const CASES: [(What, usize); 42] = [
     (What::Check(7), 10),
     (What::Check(8), 33),
     (What::Check(9), 20),
+    (What::Check(17), 9),
     (What::Run(0), 180),
     (What::Run(1), 90),
     (What::Run(2), 5),
@@ -40,6 +41,7 @@ const CASES: [(What, usize); 42] = [
     (What::Run(11), 19),
     (What::Run(12), 23),
     (What::Run(13), 8),
+    (What::Run(17), 10),
     (What::Other("intervals", |printed| printed.intervals().count()), 2500),
     (
         What::Other("plans with a spare below 0", |printed| printed.intervals().any(|line| line.contains('-')).into()),
@@ -51,8 +53,8 @@ const CASES: [(What, usize); 42] = [
     (What::Other("steps in T", |printed| printed.steps(|step| !step.high)), 15000),
     (What::Other("steps in H", |printed| printed.steps(|step| step.high)), 900),
     (What::Other("idle slots in T", |printed| printed.steps(|step| !step.high && step.idle)), 12000),
-    (What::Other("idle slots in H", |printed| printed.steps(|step| step.high && step.idle)), 80),
-    (What::Other("slots in H with HI spare above 0, LO below 0", |printed| printed.steps(Step::is_dead)), 150),
+    (What::Other("idle slots in H", |printed| printed.steps(|step| step.high && step.idle)), 20),
+    (What::Other("slots in H with HI spare above 0, LO below 0", |printed| printed.steps(Step::is_dead)), 60),
     (
         What::Other("slots in H with HI spare 0 or below", |printed| printed.steps(|step| step.high && step.hi <= 0)),
         240,

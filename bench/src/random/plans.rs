@@ -93,11 +93,25 @@ fn place_job(rng: &mut Rng, plan: &mut Plan, k: usize, free: &mut Vec<u16>, most
         }
         _ => (),
     }
-    for &slot in &inside[..lo] {
+    let own = in_runs(&inside, lo, rng.pick(&[1, 4, 4, 4, 4, 4, 4, 4, 4, 4, 4, 4, 4, 5, 5, SLOTS]));
+    for &slot in &own {
         plan.table[usize::from(slot)] = k as u16 + 1;
     }
-    free.retain(|slot| !inside[..lo].contains(slot));
-    Job { level: Level::Lo, release, deadline, lo: lo as u16, hi: lo as u16 }
+    free.retain(|slot| !own.contains(slot));
+    Job { level: Level::Lo, release, deadline, lo: own.len() as u16, hi: own.len() as u16 }
+}
+
+/// The first of these slots, at most `count` of them, left out where they would make more than `most` runs.
+fn in_runs(slots: &[u16], count: usize, most: usize) -> Vec<u16> {
+    let (mut own, mut runs) = (Vec::with_capacity(count), 0);
+    for &slot in slots {
+        let beside = own.iter().filter(|&&other: &&u16| other.abs_diff(slot) == 1).count();
+        if own.len() < count && runs + 1 <= most + beside {
+            own.push(slot);
+            runs = runs + 1 - beside;
+        }
+    }
+    own
 }
 
 /// A window that holds slot `anchor`, often one that shares a border with an earlier job's.

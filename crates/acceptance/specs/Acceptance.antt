@@ -1,4 +1,4 @@
--- Check 9, and acceptance: checks 2 to 9 in their order. 2 to 7 are in well_formed, 8 is in window_sums.
+-- Check 9, and acceptance: all checks in their order. 2 to 7 and 17 are in well_formed, 8 is in window_sums.
 use Prim.Native.Nat.{ℕ}
 use mathlib.Core.Bool.{not}
 use mathlib.Core.List.{List, zipWith}

@@ -1,4 +1,4 @@
--- Laws of the analysis, for its ways out: refused by 2 to 7, refused by 8 or 9, accepted.
+-- Laws of the analysis, for its ways out: refused by 2 to 7 or 17, refused by 8 or 9, accepted.
 use mathlib.Core.Bool.{true, false}
 use mathlib.Core.Path.{_≡_}
 use mathlib.Core.List.{List, map}
@@ -22,7 +22,7 @@ pub made : (p : Plan) (l : Layout) (hi lo : List ℤ) → l ≡ layoutOf p → h
 unfolding layoutOf
 made p l hi lo e f g = rw (e, f, g)
 
--- 2 to 7 refuse: theirs is the answer
+-- 2 to 7 or 17 refuse: theirs is the answer
 pub refused-first : (p : Plan) → accepted (wellFormed p) ≡ false → refusedAnalysis (wellFormed p) ≡ analysis p
 unfolding analysis acceptance
 refused-first p e = rw (e, e)

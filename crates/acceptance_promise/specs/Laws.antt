@@ -26,7 +26,7 @@ use Rattle.spare_theory.specs.WorseLaws.{worse}
 use Rattle.acceptance_promise.specs.Check8Laws.{a1-exactly}
 use Rattle.acceptance_promise.specs.Check9Laws.{a2-exactly, accepted-promise, refused-promise}
 
--- a plan record that passes 2 to 7 is in order
+-- a plan record that passes 2 to 7 and 17 is in order
 pub passes-in-order : (p : Plan) → Sized p → accepted (wellFormed p) ≡ true → InOrder p
 passes-in-order p sized = in-order p (sized .0) (sized .1)
 

@@ -8,3 +8,5 @@ pub mod Check9Laws
 pub mod OneSlotLaws
 pub mod Laws
 pub mod Examples
+pub mod Apart
+pub mod ApartLaws

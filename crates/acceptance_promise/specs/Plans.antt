@@ -41,3 +41,11 @@ late = plan 8 (HI 5 8 1 1 ∷ []) (0 ∷ 0 ∷ 0 ∷ 0 ∷ 0 ∷ 1 ∷ [])
 -- one slot, and one job that has it
 abbrev pub oneSlot : Plan
 oneSlot = plan 1 (HI 0 1 1 1 ∷ []) (1 ∷ [])
+
+-- one job LO, 0, 10, 5, 5, with these table slots
+abbrev pub camera : List ℕ → Plan
+camera table = plan 10 (LO 0 10 5 5 ∷ []) table
+
+-- a job HI, 0, 12, lo, hi before it, which has six slots of twelve
+abbrev pub shared : ℕ → ℕ → List ℕ → Plan
+shared lo hi table = plan 12 (HI 0 12 lo hi ∷ LO 0 12 6 6 ∷ []) table

@@ -4,7 +4,7 @@ use mathlib.Core.Bool.{Bool}
 use mathlib.Core.List.{List, [], _∷_}
 use lib.ListN.{getD}
 use Rattle.answers.specs.declared.Answer.{Answer}
-use Rattle.answers.specs.declared.Answer.the-variants.{Accepted, Written, Form, SlotLimit, JobLimit, Window, Budget, TableSlot, TableCount, Overfull, Overdrawn, Incoherent, Over, OtherSlot, WrongKind, NoRoom}
+use Rattle.answers.specs.declared.Answer.the-variants.{Accepted, Written, Form, SlotLimit, JobLimit, Window, Budget, TableSlot, TableCount, Overfull, Overdrawn, Incoherent, Over, OtherSlot, WrongKind, NoRoom, Chopped}
 use Rattle.words.specs.Words.{if_then_else_, _=?_}
 
 -- the table's column "No."
@@ -25,6 +25,7 @@ numberOf (Over t) = 11
 numberOf (OtherSlot t) = 12
 numberOf (WrongKind t) = 13
 numberOf (NoRoom bytes) = 14
+numberOf (Chopped job) = 17
 
 -- its column "Place"
 abbrev pub placesOf : Answer → List ℕ
@@ -44,6 +45,7 @@ placesOf (Over t) = t ∷ []
 placesOf (OtherSlot t) = t ∷ []
 placesOf (WrongKind t) = t ∷ []
 placesOf (NoRoom bytes) = bytes ∷ []
+placesOf (Chopped job) = job ∷ []
 
 -- the place of an answer, the first of two
 abbrev pub firstPlace : Answer → ℕ

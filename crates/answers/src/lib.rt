@@ -21,6 +21,7 @@ pub enum Answer {
     OtherSlot(u16),
     WrongKind(u16),
     NoRoom(usize),
+    Chopped(u16),
 }
 
 // The number of an answer, as the table of refusals has it; 0 is accepted.
@@ -44,6 +45,7 @@ pub fn number_of(answer: Answer) -> u16
         Answer::OtherSlot(_) => 12,
         Answer::WrongKind(_) => 13,
         Answer::NoRoom(_) => 14,
+        Answer::Chopped(_) => 17,
     }
 }
 
@@ -81,6 +83,7 @@ pub fn first_place(answer: Answer) -> usize
         Answer::OtherSlot(t) => wide(t),
         Answer::WrongKind(t) => wide(t),
         Answer::NoRoom(bytes) => bytes,
+        Answer::Chopped(job) => wide(job),
     }
 }
 
@@ -105,5 +108,6 @@ pub fn second_place(answer: Answer) -> usize
         Answer::OtherSlot(_) => 0,
         Answer::WrongKind(_) => 0,
         Answer::NoRoom(_) => 0,
+        Answer::Chopped(_) => 0,
     }
 }

@@ -10,7 +10,8 @@ use Rattle.plan.specs.Rules.{check2, check3, windowHolds, budgetHolds, windowsH
 use Rattle.plan_text.specs.Read.{levelIn, nextJob, nextPlan, onlyPlan, readPlan}
 use Rattle.intervals.specs.Intervals.{insert, rising, leastRelease, intervalsFrom, intervals, past}
 use Rattle.spares.specs.Spares.{hiLeft, loLeft, remaining, spare, spares, row, current, sameRow}
-use Rattle.well_formed.specs.WellFormed.{check4, check5, slotHolds, check6, check7, wellFormed}
+use Rattle.well_formed.specs.WellFormed.{check4, check5, slotHolds, check6, check7, check17, wellFormed}
+use Rattle.well_formed.specs.Runs.{rowsOf, runsOf, runsHold}
 use Rattle.window_sums.specs.WindowSums.{hiWithin, hiJobs, check8At, check8}
 use Rattle.acceptance.specs.Acceptance.{alongTable, check9, acceptance}
 use Rattle.acceptance.specs.Analysis.{analysis}
@@ -27,7 +28,7 @@ use Rattle.console.specs.Run.{kindIn, beforeComma, reportIn, reportsIn, 
 
 -- lets every definition compute; it is made of their names alone
 unfoldable everything : Unit {0}
-unfolding sum every countUp accepted firstRefusal digitsIn digits sameBytes numberFrom number many lineLength begins valueIn field nothingAfter naming countsAt check2 check3 windowHolds budgetHolds windowsHold levelIn nextJob nextPlan onlyPlan readPlan insert rising leastRelease intervalsFrom intervals past hiLeft loLeft remaining spare spares row current check4 check5 slotHolds check6 check7 wellFormed hiWithin hiJobs check8At check8 alongTable check9 acceptance analysis hiWork workEach workLeft loWork freshHi freshLo start standingHolds entriesHold sameRow coherent ready readyHi goesBefore better earliestFrom earliest chosenT chosenH chosen canGoOn standingAfter ranOn reported expiredEntry expiredEntries expired pastLo overrun settled everySettled canReturn judged refreshed nextRun kindFits reportAnswer step signed commas refusedLine intervalLines analysisLines checkOutput kindIn beforeComma reportIn reportsIn stepLine jobLinesFrom jobLines goOn runOutput zipWith flatMap
+unfolding sum every countUp accepted firstRefusal digitsIn digits sameBytes numberFrom number many lineLength begins valueIn field nothingAfter naming countsAt check2 check3 windowHolds budgetHolds windowsHold levelIn nextJob nextPlan onlyPlan readPlan insert rising leastRelease intervalsFrom intervals past hiLeft loLeft remaining spare spares row current check4 check5 slotHolds check6 check7 rowsOf runsOf runsHold check17 wellFormed hiWithin hiJobs check8At check8 alongTable check9 acceptance analysis hiWork workEach workLeft loWork freshHi freshLo start standingHolds entriesHold sameRow coherent ready readyHi goesBefore better earliestFrom earliest chosenT chosenH chosen canGoOn standingAfter ranOn reported expiredEntry expiredEntries expired pastLo overrun settled everySettled canReturn judged refreshed nextRun kindFits reportAnswer step signed commas refusedLine intervalLines analysisLines checkOutput kindIn beforeComma reportIn reportsIn stepLine jobLinesFrom jobLines goOn runOutput zipWith flatMap
 everything = tt
 
 abbrev pub planA : List ℕ

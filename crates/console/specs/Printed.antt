@@ -6,7 +6,7 @@ use mathlib.Core.List.{List, [], _∷_, _++_, map, append-assoc}
 use lib.IntN.{ℤ}
 use lib.ListN.{getD}
 use Rattle.answers.specs.declared.Answer.{Answer}
-use Rattle.answers.specs.declared.Answer.the-variants.{Accepted, Written, Form, SlotLimit, JobLimit, Window, Budget, TableSlot, TableCount, Overfull, Overdrawn, Incoherent, Over, OtherSlot, WrongKind, NoRoom}
+use Rattle.answers.specs.declared.Answer.the-variants.{Accepted, Written, Form, SlotLimit, JobLimit, Window, Budget, TableSlot, TableCount, Overfull, Overdrawn, Incoherent, Over, OtherSlot, WrongKind, NoRoom, Chopped}
 use Rattle.answers.specs.Answer.{numberOf, placesOf}
 use Rattle.intervals.specs.declared.Interval.{Interval}
 use Rattle.executive.specs.declared.Phase.{Phase}
@@ -71,6 +71,7 @@ one-place (Over t) h = refl
 one-place (OtherSlot t) h = refl
 one-place (WrongKind t) h = refl
 one-place (NoRoom bytes) h = refl
+one-place (Chopped job) h = refl
 
 two-places : (a : Answer) → numberOf a ≡ 8 → placesOf a ≡ getD (placesOf a) 0 0 ∷ getD (placesOf a) 1 0 ∷ []
 two-places Accepted h = absurd (omega (arith, h))
@@ -89,6 +90,7 @@ two-places (Over t) h = absurd (omega (arith, h))
 two-places (OtherSlot t) h = absurd (omega (arith, h))
 two-places (WrongKind t) h = absurd (omega (arith, h))
 two-places (NoRoom bytes) h = absurd (omega (arith, h))
+two-places (Chopped job) h = absurd (omega (arith, h))
 
 module _ (answer : Answer) (n p : ℕ) (number : n ≡ numberOf answer) (first : p ≡ getD (placesOf answer) 0 0) where
   pub refused-one : (n ≡ 8 → ⊥) → bytes "refused=" ++ (digits n ++ comma ∷ []) ++ (digits p ++ LF ∷ []) ≡ refusedLine answer

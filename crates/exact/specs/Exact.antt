@@ -1,4 +1,4 @@
--- Demand 3, last sentence, proved: a plan that passes 2 to 7 is refused by the analysis exactly when some needs make it hopeless. And without an overrun the table run serves.
+-- Demand 3, last sentence, proved: a plan that passes 2 to 7 and 17 is refused by the analysis exactly when some needs make it hopeless. And without an overrun the table run serves.
 use Prim.Native.Nat.{ℕ, _-_, _<_}
 use native.Mathlib.Omega.{arith}
 use mathlib.Core.Path.{_≡_, _∙_}

@@ -62,7 +62,7 @@ Hopeless p need = (t : ℕ) × FirstOverrun p need t × ((order : List ℕ) → 
 abbrev pub HopelessUnderSome : Plan → Type 0
 HopelessUnderSome p = (need : ℕ → ℕ) × Needs p need × Hopeless p need
 
--- 3c: a plan record that passes 2 to 7 is refused by the analysis exactly when some needs make it hopeless
+-- 3c: a plan record that passes 2 to 7 and 17 is refused by the analysis exactly when some needs make it hopeless
 abbrev pub Demand3c : Type 0
 Demand3c = (p : Plan) → Sized p → wellFormed p ≡ Accepted → (analysis p .answer ≡ Accepted → ⊥) ↔ HopelessUnderSome p
 

@@ -16,7 +16,7 @@ use Rattle.exact.specs.Exact.{demand-3c}
 use Rattle.well_formed.specs.WellFormed.{wellFormed}
 use Rattle.well_formed.specs.InOrder.{Sized}
 
--- a verdict on plans, of those that pass 2 to 7: it refuses none wrongly, it accepts none wrongly
+-- a verdict on plans, of those that pass 2 to 7 and 17: it refuses none wrongly, it accepts none wrongly
 abbrev pub RefusesOnlyHopeless : (Plan → Bool) → Type 0
 RefusesOnlyHopeless verdict = (p : Plan) → Sized p → wellFormed p ≡ Accepted → verdict p ≡ false → HopelessUnderSome p
 

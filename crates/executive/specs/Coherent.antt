@@ -20,6 +20,6 @@ allHold t js es = every (zipWith (entryHolds t) js es)
 unfoldable pub entriesHold : Run → Bool
 entriesHold r = allHold (r .t) (jobsOf (r .plan)) (r .entry)
 
--- its plan passes 2 to 7, t <= N, its entries hold, and both rows equal the fresh ones
+-- its plan passes 2 to 7 and 17, t <= N, its entries hold, and both rows equal the fresh ones
 unfoldable pub coherent : Run → Bool
 coherent r = accepted (wellFormed (r .plan)) && (r .t ≤? r .plan .slots) && entriesHold r && sameRow (r .hi) (freshHi r) && sameRow (r .lo) (freshLo r)

@@ -1,16 +1,16 @@
--- The starred sums of document 01: one list, one theorem, by computation.
+-- The starred sums of document 01, and sums of the requests: one list, one theorem, by computation.
 use Prim.Native.Nat.{ℕ}
 use mathlib.Core.Path.{_≡_, refl}
 use mathlib.Core.List.{List, [], _∷_, map}
 use lib.IntN.{ℤ, pos, negsuc}
 use lib.ListN.{length, take}
 use Rattle.plan.specs.declared.Plan.{Plan}
-use Rattle.answers.specs.declared.Answer.the-variants.{Accepted, Overfull, Overdrawn}
+use Rattle.answers.specs.declared.Answer.the-variants.{Accepted, TableCount, Overfull, Overdrawn, Chopped}
 use Rattle.intervals.specs.Intervals.{intervals}
 use Rattle.spares.specs.Spares.{row}
 use Rattle.acceptance.specs.Acceptance.{acceptance}
 use Rattle.acceptance.specs.Analysis.{hiAtStart, loAtStart}
-use Rattle.acceptance_promise.specs.Plans.{A, B, C, one, borrowing}
+use Rattle.acceptance_promise.specs.Plans.{plan, HI, LO, A, B, C, one, borrowing, camera, shared}
 use Rattle.entries.specs.declared.Standing.the-variants.{Dropped}
 use Rattle.executive.specs.declared.Phase.the-variants.{T, H}
 use Rattle.ready.specs.declared.Slot.{Slot}
@@ -94,6 +94,21 @@ sums =
     ∷ (ran (start A .run) (End ∷ More ∷ More ∷ []) ≡ Slot.Job 2 ∷ Slot.Job 1 ∷ Slot.Job 1 ∷ [])
     ∷ (after A (End ∷ More ∷ []) .phase ≡ T)
     ∷ (after A (End ∷ More ∷ More ∷ []) .phase ≡ H)
+    -- K3: five runs are refused 17, the first at slot 0 and the last at slot N - 1, which do not adjoin; four are accepted
+    ∷ (acceptance (camera (1 ∷ 0 ∷ 1 ∷ 0 ∷ 1 ∷ 0 ∷ 1 ∷ 0 ∷ 0 ∷ 1 ∷ [])) ≡ Chopped 1)
+    ∷ (acceptance (camera (1 ∷ 1 ∷ 0 ∷ 1 ∷ 0 ∷ 1 ∷ 0 ∷ 0 ∷ 0 ∷ 1 ∷ [])) ≡ Accepted)
+    -- slots beyond N are not looked at; all slots in one row are one run
+    ∷ (acceptance (camera (1 ∷ 1 ∷ 0 ∷ 1 ∷ 0 ∷ 1 ∷ 0 ∷ 0 ∷ 0 ∷ 1 ∷ 0 ∷ 1 ∷ 0 ∷ 1 ∷ [])) ≡ Accepted)
+    ∷ (acceptance (camera (1 ∷ 1 ∷ 1 ∷ 1 ∷ 1 ∷ [])) ≡ Accepted)
+    -- a slot of another job breaks a row; the place is the first such job
+    ∷ (acceptance (shared 4 4 (2 ∷ 1 ∷ 2 ∷ 1 ∷ 2 ∷ 1 ∷ 2 ∷ 1 ∷ 2 ∷ 2 ∷ [])) ≡ Chopped 2)
+    ∷ (acceptance (shared 5 5 (1 ∷ 2 ∷ 1 ∷ 2 ∷ 1 ∷ 2 ∷ 1 ∷ 2 ∷ 1 ∷ 2 ∷ 2 ∷ [])) ≡ Chopped 1)
+    ∷ (acceptance (shared 4 4 (2 ∷ 2 ∷ 1 ∷ 2 ∷ 1 ∷ 2 ∷ 1 ∷ 2 ∷ 1 ∷ 0 ∷ 0 ∷ 2 ∷ [])) ≡ Chopped 2)
+    ∷ (acceptance (shared 3 3 (2 ∷ 2 ∷ 1 ∷ 2 ∷ 1 ∷ 2 ∷ 1 ∷ 2 ∷ 2 ∷ [])) ≡ Accepted)
+    -- 7 goes before 17 for all jobs, 17 before 8
+    ∷ (acceptance (shared 5 5 (1 ∷ 2 ∷ 1 ∷ 2 ∷ 1 ∷ 2 ∷ 1 ∷ 2 ∷ 1 ∷ 2 ∷ [])) ≡ TableCount 2)
+    ∷ (acceptance (plan 12 (HI 4 6 1 5 ∷ LO 0 12 5 5 ∷ []) (2 ∷ 0 ∷ 2 ∷ 0 ∷ 1 ∷ 2 ∷ 0 ∷ 2 ∷ 0 ∷ 2 ∷ [])) ≡ Chopped 2)
+    ∷ (acceptance (plan 12 (HI 4 6 1 5 ∷ LO 0 12 5 5 ∷ []) (2 ∷ 2 ∷ 2 ∷ 0 ∷ 1 ∷ 2 ∷ 0 ∷ 2 ∷ [])) ≡ Overfull 4 6)
     ∷ []
 
 pub sums-hold : All sums
@@ -107,5 +122,9 @@ sums-hold =
     & refl & refl & refl
     & refl & refl & refl & refl
     & refl & refl & refl
+    & refl & refl & refl
+    & refl & refl
+    & refl & refl
+    & refl & refl & refl & refl
     & refl & refl & refl
     & tt

@@ -1,4 +1,4 @@
--- A plan record that passes 2 to 7 is in order: here alone the checks are opened, and whoever stands above cites in-order.
+-- A plan record that passes 2 to 7 and 17 is in order: here alone the checks are opened, and whoever stands above cites in-order.
 use Prim.Native.Nat.{ℕ, suc, _+_, _-_, _≤_, _<_, suc-le-suc, zero-le}
 use native.Mathlib.Omega.{arith}
 use mathlib.Core.Path.{_≡_, refl, _∙_}
@@ -16,7 +16,7 @@ use Rattle.plan.specs.declared.Plan.{Plan}
 use Rattle.plan.specs.Limits.{maxSlots, maxJobs, oneTo}
 use Rattle.plan.specs.Plan.{jobsOf, slotsOf, blankJob, jobNo, isHi, tableAt, naming}
 use Rattle.plan.specs.Rules.{check2, check3, windowHolds, budgetHolds, windowsHold}
-use Rattle.well_formed.specs.WellFormed.{check4, check5, check6, check7, slotHolds, wellFormed}
+use Rattle.well_formed.specs.WellFormed.{check4, check5, check6, check7, check17, slotHolds, wellFormed}
 use Rattle.well_formed.specs.InOrder.{jobAt, InOrder, JobOf}
 use Rattle.words.specs.MemberLaws.{member-at}
 use Rattle.words.specs.Cases.{never, both-hold}
@@ -99,17 +99,23 @@ module _ (p : Plan) (passes : accepted (wellFormed p) ≡ true) where
     five : accepted (check5 p) ≡ true
     six : accepted (check6 p) ≡ true
     seven : accepted (check7 p) ≡ true
+    seventeen : accepted (check17 p) ≡ true
 
   -- so all pass
   all-passed : Passed
   unfolding wellFormed
   all-passed =
-      let a = both-accept (check2 p) (check3 p andThen check4 p andThen check5 p andThen check6 p andThen check7 p) passes in
-      let b = both-accept (check3 p) (check4 p andThen check5 p andThen check6 p andThen check7 p) (a .1) in
-      let c = both-accept (check4 p) (check5 p andThen check6 p andThen check7 p) (b .1) in
-      let d = both-accept (check5 p) (check6 p andThen check7 p) (c .1) in
-      let e = both-accept (check6 p) (check7 p) (d .1) in
-      record { two = a .0; three = b .0; four = c .0; five = d .0; six = e .0; seven = e .1 }
+      let a = both-accept (check2 p) (check3 p andThen check4 p andThen check5 p andThen check6 p andThen check7 p andThen check17 p) passes in
+      let b = both-accept (check3 p) (check4 p andThen check5 p andThen check6 p andThen check7 p andThen check17 p) (a .1) in
+      let c = both-accept (check4 p) (check5 p andThen check6 p andThen check7 p andThen check17 p) (b .1) in
+      let d = both-accept (check5 p) (check6 p andThen check7 p andThen check17 p) (c .1) in
+      let e = both-accept (check6 p) (check7 p andThen check17 p) (d .1) in
+      let f = both-accept (check7 p) (check17 p) (e .1) in
+      record { two = a .0; three = b .0; four = c .0; five = d .0; six = e .0; seven = f .0; seventeen = f .1 }
+
+  -- check 17 is among them
+  pub runs-passed : accepted (check17 p) ≡ true
+  runs-passed = all-passed .seventeen
 
   -- check 2: N is within its limits
   pub slot-limit : (1 ≤ p .slots) × (p .slots ≤ maxSlots)
@@ -160,7 +166,7 @@ module _ (p : Plan) (longJob : length (p .job) ≡ maxJobs) (longTable : length 
       let w = unless-holds (TableCount (suc k)) (naming (suc k) (slotsOf p) =? getD (jobsOf p) k blankJob .lo) refl h in
       eqb-true (naming (suc k) (slotsOf p)) (jobAt p k .lo) (rw (among-jobs p k l) at w)
 
-  -- a plan that passes 2 to 7 is in order
+  -- a plan that passes 2 to 7 and 17 is in order; of 17 nothing is needed for that
   pub in-order : InOrder p
   in-order =
       record {

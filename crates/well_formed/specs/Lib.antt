@@ -1,4 +1,7 @@
+pub mod Runs
 pub mod WellFormed
 pub mod InOrder
+pub mod RunWords
 pub mod Parts
+pub mod RunLaws
 pub mod InOrderLaws

@@ -6,6 +6,7 @@ use native.Mathlib.Omega.{arith}
 use mathlib.Core.Path.{_≡_, refl}
 use mathlib.Core.Logic.{_⊎_, inl, inr, ⊎-elim}
 use borrow.Author.Tests.{le-leb, lt-leb, eq-eqb, ne-eqb}
+use Rattle.words.specs.Cases.{by-less}
 use Rattle.windows.specs.Sums.{total, gate, same}
 
 -- ---- totals
@@ -64,6 +65,14 @@ pub total-last : (n : ℕ) (f : ℕ → ℕ) → total (suc n) f ≡ total n f +
 unfolding total
 total-last zero f = omega arith
 total-last (suc n) f = let r = total-last n (λ k. f (suc k)) in omega arith
+
+-- a total over more places is no less
+pub total-up : (f : ℕ → ℕ) (m n : ℕ) → m ≤ n → total m f ≤ total n f
+total-up f m zero h = let e : m ≡ 0 = omega arith in rw e (omega arith)
+total-up f m (suc n) h =
+    by-less n m
+    (λ l. let e : m ≡ suc n = omega arith in rw e (omega arith))
+    (λ l. omega (arith, total-up f m n l, total-last n f))
 
 -- ---- gates
 -- an open gate lets n through
