@@ -69,9 +69,11 @@ pub record Ended (c : Console) (left : List ℕ) (before : List ℕ) (r : ℕ) (
   pub fits : r ≤ length after
   pub long : length after ≡ length before
 
-pub record Turned (before : List ℕ) (r : Going) (after : List ℕ) : Type 0 where
+-- one read more: the n bytes that were held, with some piece behind them, were answered as far as they go, and what is held is their rest
+pub record Turned (c : Console) (n : ℕ) (before : List ℕ) (r : Going) (after : List ℕ) : Type 0 where
   pub long : length after ≡ length before
   pub stands : r .on ≡ true → Standing (r .console) (take (r .n) after) × (r .n < enough)
+  pub more : r .on ≡ true → (piece : List ℕ) × Held c (take n before ++ piece) r after
 
 -- how many events there can still be
 abbrev pub ahead : List ℕ → ℕ → Left → ℕ

@@ -180,8 +180,8 @@ held-on c n before left r held in-text a w goes m =
 pub over-taken : (c : Console) (n : ℕ) (before : List ℕ) (r : Going) → r .on ≡ false → Taken c n before r before
 over-taken c n before r o = record { long = refl; held = λ on. absurd (false≢true (sym o ∙ on)) }
 
-pub over-turned : (before held : List ℕ) (r : Going) → r .on ≡ false → length held ≡ length before → Turned before r held
-over-turned before held r o l = record { long = l; stands = λ on. absurd (false≢true (sym o ∙ on)) }
+pub over-turned : (c : Console) (n : ℕ) (before held : List ℕ) (r : Going) → r .on ≡ false → length held ≡ length before → Turned c n before r held
+over-turned c n before held r o l = record { long = l; stands = λ on. absurd (false≢true (sym o ∙ on)); more = λ on. absurd (false≢true (sym o ∙ on)) }
 
 pub stands-first : (c : Console) → c ≡ freshConsole → Standing c []
 unfolding progress
@@ -196,8 +196,8 @@ module _ (n m : ℕ) (before mid : List ℕ) (stays : take n mid ≡ take n befo
   unfolding piece
   joined on = ap (λ (l : List ℕ). l ++ drop n (take m mid)) (sym stays ∙ sym (take-take n m mid on)) ∙ take-append-drop n (take m mid)
 
-  pub stands-on : (c : Console) (r : Going) (held : List ℕ) → Standing c (take n before) → Taken c m mid r held → n ≤ m → length mid ≡ length before → Turned before r held
-  stands-on c r held s t on long = record { long = t .long ∙ long; stands = λ go. (goes (t .held go), t .held go .few) }
+  pub stands-on : (c : Console) (r : Going) (held : List ℕ) → Standing c (take n before) → Taken c m mid r held → n ≤ m → length mid ≡ length before → Turned c n before r held
+  stands-on c r held s t on long = record { long = t .long ∙ long; stands = λ go. (goes (t .held go), t .held go .few); more = λ go. (piece, rw (joined on) (t .held go)) }
     where
       goes : Held c (take m mid) r held → Standing (r .console) (take (r .n) held)
       goes h =

@@ -124,7 +124,7 @@ fn ended(c: Console, text: &[u8], n: usize, out: &mut [u8]) -> usize
 // One read, and all that can then be answered; at the end of input the last lines. A read that fails prints nothing.
 fn turn(c: Console, held: &mut [u8], n: usize, out: &mut [u8]) -> Going
     requires { ⌜ Standing c (take n (now held)) × (n < length (now held)) × (runRoom ≤ length (now out)) ⌝ }
-    ensures { λ r. ⌜ Turned (now (held .entry)) r (now (held .exit)) ⌝ }
+    ensures { λ r. ⌜ Turned c n (now (held .entry)) r (now (held .exit)) ⌝ }
     ensures { λ _. ⌜ length (now (out .exit)) ≡ length (now (out .entry)) ⌝ }
 {
     let came = streams::read_after(held, n);

@@ -76,13 +76,13 @@ same-length-4 : tie.Need-same-length-4
 same-length-4 c = search needs
 
 returns-2 : tie.Need-returns-2
-returns-2 c = (over-turned _ _ _ (c .over .ensures) (c .before .before .before .before .before .before .before .before .before .before .before .before .read-after .ensures .long), c .before .before .before .before .before .ended .ensures .long)
+returns-2 c = (over-turned _ _ _ _ _ (c .over .ensures) (c .before .before .before .before .before .before .before .before .before .before .before .before .read-after .ensures .long), c .before .before .before .before .before .ended .ensures .long)
 
 same-length-5 : tie.Need-same-length-5
 same-length-5 c = search needs
 
 returns-3 : tie.Need-returns-3
-returns-3 c = (over-turned _ _ _ (c .over2 .ensures) (c .before .before .before .before .before .read-after .ensures .long), refl)
+returns-3 c = (over-turned _ _ _ _ _ (c .over2 .ensures) (c .before .before .before .before .before .read-after .ensures .long), refl)
 
 pub turn-spec : {M : Type 1} → statement M
 turn-spec =
