@@ -1,1 +1,2 @@
 // What acceptance promises to whoever stands above: specs/ has the laws. No code.
+#![tactic(auto)]

@@ -1,9 +1,11 @@
 // The answers: one enum for every call of the product. specs/Answer.antt has the number and the places of each case.
+#![tactic(auto)]
+
 ghost use Rattle.std.specs.Prelude.{◌≡◌, get_or};
 ghost use Rattle.answers.specs.Answer.{accepted, number_of, places_of, first_place};
 
 // What a case holds is its place: a line, a job, a slot, a border, a count of bytes.
-#[derive(Drop)]
+#[derive(Clone, Copy)]
 pub enum Answer {
     Accepted,
     Written(usize),

@@ -1,5 +1,7 @@
 // The check program: reads a plan on standard input and prints its intervals and spares, or one refused line.
 // Where the input cannot be read it prints nothing.
+#![tactic(auto)]
+
 use streams::Came;
 
 // Prints what the check says of the text.

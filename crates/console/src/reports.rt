@@ -7,20 +7,20 @@ use entries::Kind;
 use executive::Report;
 use lines::reading::{Number, ValueAt};
 
-#[derive(Drop)]
+#[derive(Clone, Copy)]
 enum KindName {
     Is(Kind),
     Not,
 }
 
-#[derive(Drop)]
+#[derive(Clone, Copy)]
 enum ReportName {
     Is(Report),
     Not,
 }
 
 // The report on a line, and the first byte of the next line.
-#[derive(Drop)]
+#[derive(Clone, Copy)]
 pub(crate) enum ReportAt {
     Got(Report, usize),
     Bad,

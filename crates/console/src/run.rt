@@ -28,7 +28,7 @@ const ENOUGH: usize = 6805;
 // No report line is longer.
 const LONGEST_REPORT: usize = 17;
 
-#[derive(Drop)]
+#[derive(Clone, Copy)]
 pub enum Stage {
     Reading,
     Running,
@@ -36,7 +36,7 @@ pub enum Stage {
 }
 
 // Where the program stands: at the plan, or in a run with `line` the number of the next line, or stopped by a refusal.
-#[derive(Drop)]
+#[derive(Clone, Copy)]
 pub struct Console {
     pub stage: Stage,
     pub run: Run,
@@ -44,7 +44,7 @@ pub struct Console {
 }
 
 // The console after an event, the bytes of the text that are done with, the bytes printed, and whether it waits for more text.
-#[derive(Drop)]
+#[derive(Clone, Copy)]
 pub struct Turn {
     pub console: Console,
     pub used: usize,

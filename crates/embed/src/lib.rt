@@ -1,5 +1,7 @@
 // The product for a host program in C or Rust: each function starts from a text and keeps nothing between calls.
 // include/coater.h declares them.
+#![tactic(auto)]
+
 ghost use Rattle.std.specs.Prelude.{◌≡◌, length};
 ghost use Rattle.answers.specs.Answer.{number_of};
 ghost use Rattle.plan_text.specs.Read.{read_plan};

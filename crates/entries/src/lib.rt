@@ -1,5 +1,7 @@
 // One job's entry: how it stands, what it was given, what a report makes of it, when it expires, what the tests of a run ask of it.
 // The entries of a run, job by job, are gone through in executive.
+#![tactic(auto)]
+
 ghost use Rattle.std.specs.Prelude.{◌≡◌, ◌&&◌, replicate};
 ghost use Rattle.words.specs.Words.{◌≤?◌};
 ghost use Rattle.plan.specs.Limits.{max_jobs};
@@ -8,7 +10,7 @@ ghost use Rattle.entries.specs.Entry.{how_it_stands, live, fresh_entry, standing
 use plan::{Job, is_hi};
 
 // How a job stands: Waiting is live, the others are ended, with the border after that step.
-#[derive(Drop)]
+#[derive(Clone, Copy)]
 pub enum Standing {
     Waiting,
     Finished(u16),
@@ -17,20 +19,20 @@ pub enum Standing {
 }
 
 // The same where the letter does not matter: live, or ended with its border.
-#[derive(Drop)]
+#[derive(Clone, Copy)]
 pub enum Stands {
     Live,
     Ended(u16),
 }
 
-#[derive(Drop)]
+#[derive(Clone, Copy)]
 pub struct Entry {
     pub standing: Standing,
     pub given: u16,
 }
 
 // What a report says of its slot.
-#[derive(Drop)]
+#[derive(Clone, Copy)]
 pub enum Kind {
     End,
     More,

@@ -1,4 +1,6 @@
 // The run of an accepted plan, slot by slot: start, coherence, choice, report, expiry, phase. Texts and programs are above.
+#![tactic(auto)]
+
 ghost use Rattle.std.specs.Prelude.{◌≡◌};
 ghost use Rattle.intervals.specs.Layout.{layout_of};
 ghost use Rattle.executive.specs.Run.{blank_run, start};
@@ -19,13 +21,13 @@ mod choosing;
 mod coherence;
 mod stepping;
 
-#[derive(Drop)]
+#[derive(Clone, Copy)]
 pub enum Phase {
     T,
     H,
 }
 
-#[derive(Drop)]
+#[derive(Clone, Copy)]
 pub struct Run {
     pub plan: Plan,
     pub t: u16,
@@ -35,21 +37,21 @@ pub struct Run {
     pub entry: [Entry; plan::JOBS],
 }
 
-#[derive(Drop)]
+#[derive(Clone, Copy)]
 pub struct Report {
     pub slot: u16,
     pub kind: Kind,
 }
 
 // A new run, or the plan's refusal beside the blank run.
-#[derive(Drop)]
+#[derive(Clone, Copy)]
 pub struct Started {
     pub answer: Answer,
     pub run: Run,
 }
 
 // What slot t is given to, how many jobs are ready, and the current spares before the slot.
-#[derive(Drop)]
+#[derive(Clone, Copy)]
 pub struct Choice {
     pub answer: Answer,
     pub slot: Slot,
@@ -59,7 +61,7 @@ pub struct Choice {
 }
 
 // The next run and the choice that was made, or a refusal beside the same run and no choice.
-#[derive(Drop)]
+#[derive(Clone, Copy)]
 pub struct Stepped {
     pub answer: Answer,
     pub run: Run,

@@ -1,4 +1,6 @@
 // The intervals of a plan, laid out once. Their spares are in spares.
+#![tactic(auto)]
+
 ghost use Rattle.std.specs.Prelude.{◌≡◌, [], ◌-◌, ◌≤◌, max, min, take};
 ghost use Rattle.plan.specs.Limits.{max_slots, max_jobs};
 ghost use Rattle.intervals.specs.Intervals.{intervals};
@@ -14,14 +16,14 @@ mod by_deadline;
 // Every deadline ends an interval, and an empty one may stand before each and after the last.
 pub const INTERVALS: usize = 65;
 
-#[derive(Drop)]
+#[derive(Clone, Copy)]
 pub struct Interval {
     pub start: u16,
     pub end: u16,
 }
 
 // A plan's intervals, worked out once: how many, which, and for each job the place of its own.
-#[derive(Drop)]
+#[derive(Clone, Copy)]
 pub struct Layout {
     pub count: u16,
     pub interval: [Interval; INTERVALS],

@@ -1,13 +1,15 @@
 // The line reader: it holds the caller's text and its place, and goes from line to line. Each function over it takes it apart and leaves
 // the work to a covered one on slice and number. `find_value` and `part_from` have plain parameters, so their callers need no walk.
 // What a line means is in lines and above.
+#![tactic(auto)]
+
 ghost use Rattle.std.specs.Prelude.{◌≡◌, take, drop};
 ghost use Rattle.lines.specs.Reading.{value_at, number_at};
 ghost use Rattle.line_reader.specs.Line.{next_place, with_next};
 
 use lines::reading::{Number, NumberAt, ValueAt, key_at, line_end, read_number};
 
-#[derive(Drop)]
+#[derive(Clone, Copy)]
 pub struct LineReader<'a> {
     pub text: &'a [u8],
     pub at: usize,

@@ -5,7 +5,7 @@ ghost use Rattle.lines.specs.Lines.{line_length, begins, same_bytes, number, num
 ghost use Rattle.lines.specs.Reading.{line_here, number_read};
 
 // Where a line's value stands: its first byte, its length, and the first byte of the next line.
-#[derive(Drop)]
+#[derive(Clone, Copy)]
 pub enum ValueAt {
     At {
         start: usize,
@@ -15,14 +15,14 @@ pub enum ValueAt {
     Refused,
 }
 
-#[derive(Drop)]
+#[derive(Clone, Copy)]
 pub enum Number {
     Is(u16),
     Not,
 }
 
 // The number on a line, and the first byte of the next line.
-#[derive(Drop)]
+#[derive(Clone, Copy)]
 pub enum NumberAt {
     Got(u16, usize),
     Bad,

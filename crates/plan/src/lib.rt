@@ -1,5 +1,7 @@
 // The plan's record: levels, jobs, the table; its rules for limits, windows and budgets; the counts of table slots.
 // The text is in plan_text, the judgement of a whole plan in acceptance.
+#![tactic(auto)]
+
 ghost use Rattle.std.specs.Prelude.{◌≡◌, map, take, ◌≤◌, ◌<◌};
 ghost use Rattle.words.specs.Words.{every};
 ghost use Rattle.answers.specs.declared.Answer.TheVariants.{SlotLimit, JobLimit};
@@ -15,13 +17,13 @@ pub const SLOTS: usize = 512;
 
 pub const JOBS: usize = 32;
 
-#[derive(Drop)]
+#[derive(Clone, Copy)]
 pub enum Level {
     Lo,
     Hi,
 }
 
-#[derive(Drop)]
+#[derive(Clone, Copy)]
 pub struct Job {
     pub level: Level,
     pub release: u16,
@@ -31,7 +33,7 @@ pub struct Job {
 }
 
 // N is `slots`, n is `jobs`; the table names for each slot a job, or 0 for idle.
-#[derive(Drop)]
+#[derive(Clone, Copy)]
 pub struct Plan {
     pub slots: u16,
     pub jobs: u16,

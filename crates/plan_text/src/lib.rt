@@ -1,4 +1,6 @@
 // The plan text: reader and writer.
+#![tactic(auto)]
+
 pub mod reader;
 pub mod writer;
 
@@ -6,7 +8,7 @@ use answers::Answer;
 use plan::Plan;
 
 // The plan that was read, or a refusal beside the blank plan.
-#[derive(Drop)]
+#[derive(Clone, Copy)]
 pub struct PlanRead {
     pub answer: Answer,
     pub plan: Plan,

@@ -16,21 +16,21 @@ const PLAN_LINES: usize = 2 + 5 * plan::JOBS + plan::SLOTS;
 
 const LAST_LINE: usize = 65535;
 
-#[derive(Drop)]
+#[derive(Clone, Copy)]
 enum LevelName {
     Is(Level),
     Not,
 }
 
 // The level on a line, and the first byte of the next line.
-#[derive(Drop)]
+#[derive(Clone, Copy)]
 enum LevelAt {
     Got(Level, usize),
     Bad,
 }
 
 // The job of five lines and the first byte of the line after them, or the line that is not of the form.
-#[derive(Drop)]
+#[derive(Clone, Copy)]
 enum JobAt {
     Got(Job, usize),
     Bad(u16),
@@ -38,7 +38,7 @@ enum JobAt {
 
 // The plan that was read, the first byte after its last line and the number of the line there;
 // or a refusal beside the blank plan, place 0 and line 0.
-#[derive(Drop)]
+#[derive(Clone, Copy)]
 pub struct PlanPrefix {
     pub answer: Answer,
     pub plan: Plan,
@@ -47,7 +47,7 @@ pub struct PlanPrefix {
 }
 
 // The jobs and the first byte after their lines; beside a refusal the array is not used.
-#[derive(Drop)]
+#[derive(Clone, Copy)]
 struct JobsRead {
     answer: Answer,
     job: [Job; plan::JOBS],
@@ -55,7 +55,7 @@ struct JobsRead {
 }
 
 // What the lines of the slots say, and the first byte after them; the slots stand in the table that was lent.
-#[derive(Drop)]
+#[derive(Clone, Copy)]
 struct SlotsRead {
     answer: Answer,
     next: usize,
@@ -63,7 +63,7 @@ struct SlotsRead {
 
 // What the lines of a plan say but for the slots, the first byte after the last line and the number of the line there.
 // Beside a refusal only the answer is used.
-#[derive(Drop)]
+#[derive(Clone, Copy)]
 struct Parts {
     answer: Answer,
     slots: u16,

@@ -1,1 +1,2 @@
 // The demands as theorems: specs/ has them. No code.
+#![tactic(auto)]

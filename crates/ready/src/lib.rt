@@ -1,4 +1,6 @@
 // The ready jobs as one 32-bit set, job 1 at bit 0, and the earliest-deadline walk over a set. Who gets a slot is chosen in executive.
+#![tactic(auto)]
+
 ghost use Rattle.std.specs.Prelude.{◌≡◌, ◌||◌, ◌-◌, ◌≤◌, ◌<◌, take};
 ghost use Rattle.words.specs.Words.{if◌then◌else◌, ◌=?◌};
 ghost use Rattle.plan.specs.Limits.{max_jobs};
@@ -8,7 +10,7 @@ use entries::{Entry, is_live};
 use plan::{JOBS, Job, is_hi};
 
 // What a slot is given to.
-#[derive(Drop)]
+#[derive(Clone, Copy)]
 pub enum Slot {
     Job(u16),
     Idle,

@@ -1,5 +1,7 @@
 // The run program: reads a plan and, directly after it, report lines; answers each report as soon as its line has arrived.
 // It holds only input that is not done with. A read or a write that fails ends it, with nothing more printed.
+#![tactic(auto)]
+
 ghost use Rattle.std.specs.Prelude.{◌≤◌, ◌<◌, ◌≡◌, false, length, take};
 ghost use Rattle.console.specs.Console.{run_room};
 ghost use Rattle.run_plan.specs.Loop.{Answered, AtRest, Ended, Moved, Standing, Taken, Turned};
@@ -14,7 +16,7 @@ const PLAN: usize = 11 + 10 + plan::JOBS * 52 + plan::SLOTS * 10;
 const HELD: usize = PLAN + 4096;
 
 // The console after an event, the first byte that it is not done with, what the event printed, and whether it waits for more.
-#[derive(Drop)]
+#[derive(Clone, Copy)]
 struct Left {
     console: Console,
     at: usize,
@@ -23,7 +25,7 @@ struct Left {
 }
 
 // The console, how many bytes are held for it, and whether the program goes on.
-#[derive(Drop)]
+#[derive(Clone, Copy)]
 struct Going {
     console: Console,
     n: usize,

@@ -1,5 +1,7 @@
 // The spares of a plan's intervals: the work of jobs, a row of spares, both rows of a border, the current spare of a row.
 // The intervals are laid out in intervals; whether a plan is accepted is judged in acceptance.
+#![tactic(auto)]
+
 ghost use Rattle.std.specs.Prelude.{◌≡◌, ◌+◌, ◌-◌, ◌<◌, ◌^◌, pos, take, get_or};
 ghost use Rattle.std.proofs.Math.IntN.{sub_ℕ};
 ghost use Rattle.spares.specs.Spares.{hi_left, lo_left, no_spares, same_row};
@@ -23,7 +25,7 @@ pub type Spare = i32;
 pub type Row = [Spare; INTERVALS];
 
 // Both rows of one border.
-#[derive(Drop)]
+#[derive(Clone, Copy)]
 pub struct Rows {
     pub hi: Row,
     pub lo: Row,

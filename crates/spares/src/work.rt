@@ -9,7 +9,7 @@ use intervals::capped;
 use plan::{JOBS, Job};
 
 // The work for the HI row and for the LO row, one number a job.
-#[derive(Drop)]
+#[derive(Clone, Copy)]
 pub(crate) struct Work {
     pub(crate) hi: [u16; JOBS],
     pub(crate) lo: [u16; JOBS],

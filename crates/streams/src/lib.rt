@@ -1,13 +1,15 @@
 // Standard input and output as every program uses them: nothing that came is lost, and what is printed has no hole.
 // A call that a signal interrupted is made again; where no input is there yet, or no room for output, the program waits.
 // Any other failure is said in one line on standard error. What the bytes mean is not here.
+#![tactic(auto)]
+
 ghost use Rattle.std.specs.Prelude.{◌≤◌, ◌≡◌, length};
 ghost use Rattle.streams.specs.Streams.{ReadAfter, TriedRead, MovedIn, NoneMoved, brought_by, fault_of};
 
 use libc::{STDIN_FILENO, STDOUT_FILENO};
 
 // What reading brought: how many bytes, at least one; the end of input; or a failure, which has been said.
-#[derive(Drop)]
+#[derive(Clone, Copy)]
 pub enum Came {
     Bytes(usize),
     End,
@@ -15,7 +17,7 @@ pub enum Came {
 }
 
 // One call: how many bytes it moved; or nothing, and it may be made again; or it failed.
-#[derive(Drop)]
+#[derive(Clone, Copy)]
 enum Tried {
     Moved(usize),
     Again,
@@ -23,7 +25,7 @@ enum Tried {
 }
 
 // Why a call failed: a signal came first, nothing can be moved yet, or anything else.
-#[derive(Drop)]
+#[derive(Clone, Copy)]
 enum Fault {
     Interrupted,
     NotReady,

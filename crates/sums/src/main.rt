@@ -1,5 +1,7 @@
 // The sums that are run: limits, bad texts, records that no text has, and reports out of turn.
 // One line for each case; the file stdout has what they should be.
+#![tactic(auto)]
+
 mod print;
 mod records;
 mod runs;

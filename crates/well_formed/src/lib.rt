@@ -1,4 +1,6 @@
 // Checks 2 to 7 and 17 of a plan record. 8 is in window_sums, 9 and the analysis are in acceptance.
+#![tactic(auto)]
+
 ghost use Rattle.std.specs.Prelude.{◌≡◌, true, ◌&&◌, ◌||◌, ◌-◌, ◌≤◌, ◌<◌, take};
 ghost use Rattle.words.specs.Words.{◌≤?◌, ◌<?◌, ◌=?◌};
 ghost use Rattle.answers.specs.Answer.{accepted};
@@ -76,7 +78,7 @@ fn entry_holds(jobs: u16, j: Job, t: u16, k: u16) -> bool
 }
 
 // What the scan of the table gives: the answer of check 6 and, where it accepts, the table slots and the runs of each job.
-#[derive(Drop)]
+#[derive(Clone, Copy)]
 struct Scanned {
     answer: Answer,
     counts: [u16; plan::JOBS],

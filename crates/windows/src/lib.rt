@@ -1,1 +1,2 @@
 // The theory of work in windows: specs/ has it. No code.
+#![tactic(auto)]

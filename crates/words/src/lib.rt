@@ -1,1 +1,2 @@
 // The words of every definition: specs/ has them. No code.
+#![tactic(auto)]
