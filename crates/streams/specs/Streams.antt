@@ -1,13 +1,13 @@
 -- What the programs' reading and writing promise: which bytes stay, how many came or went, and which failures pass.
 -- Which bytes the C library reads and writes no promise can say.
-use Rattle.std.specs.Prelude.{ℕ, ◌+◌, ◌≤◌, ◌<◌, ◌≡◌, List, length, take, ℤ}
+use Rattle.std.specs.Prelude.{ℕ, ◌+◌, ◌≤◌, ◌<◌, ◌≡◌, List, length, take, ℤ, Option}
 use Rattle.std.specs.Int.{w32}
 use Rattle.std.proofs.Common.{of_z}
+use Rattle.std.specs.Option.{option_map_or}
 use Rattle.words.specs.Words.{if◌then◌else◌, ◌=?◌}
 use Rattle.streams.specs.declared.Came.{Came}
 use Rattle.streams.specs.declared.Came.TheVariants.{Bytes, End, Failed}
 use Rattle.streams.specs.declared.Tried.{Tried}
-use Rattle.streams.specs.declared.Tried.TheVariants as Tried
 use Rattle.streams.specs.declared.Fault.{Fault}
 use Rattle.streams.specs.declared.Fault.TheVariants.{Interrupted, NotReady, Broken}
 
@@ -16,6 +16,10 @@ use Rattle.streams.specs.declared.Fault.TheVariants.{Interrupted, NotReady, Brok
 -- EINTR is 4 and EAGAIN is 11; the number is compared in its 32 bits
 abbrev pub fault_of : ℤ → Fault
 fault_of e = if of_z w32 e =? 4 then Interrupted else if of_z w32 e =? 11 then NotReady else Broken
+
+-- an error of the system's by its number; any other is broken
+abbrev pub fault_seen : Option ℤ → Fault
+fault_seen number = option_map_or fault_of number Broken
 
 -- a call that failed moved nothing
 abbrev pub NoneMoved : Tried → Type 0

@@ -5,7 +5,6 @@ use Rattle.words.specs.Cases.{by_equal}
 use Rattle.streams.specs.declared.Came.{Came}
 use Rattle.streams.specs.declared.Came.TheVariants.{Bytes, Failed}
 use Rattle.streams.specs.declared.Tried.{Tried}
-use Rattle.streams.specs.declared.Tried.TheVariants as Tried
 use Rattle.streams.specs.Streams.{NoneMoved, MovedIn, TriedRead, brought_by, CameIn, ReadAfter}
 
 -- ---- one call

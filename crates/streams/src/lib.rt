@@ -4,9 +4,11 @@
 #![tactic(auto)]
 
 ghost use Rattle.std.specs.Prelude.{◌≤◌, ◌≡◌, length};
-ghost use Rattle.streams.specs.Streams.{ReadAfter, TriedRead, MovedIn, NoneMoved, brought_by, fault_of};
+ghost use Rattle.std.specs.IoError.{raw_os_error};
+ghost use Rattle.streams.specs.Streams.{ReadAfter, TriedRead, MovedIn, NoneMoved, brought_by, fault_of, fault_seen};
 
-use libc::{STDIN_FILENO, STDOUT_FILENO};
+use std::io::{Eprint, Error, Read, Write};
+use std::thread;
 
 // What reading brought: how many bytes, at least one; the end of input; or a failure, which has been said.
 #[derive(Clone, Copy)]
@@ -35,52 +37,66 @@ enum Fault {
 // A call is made at most this often, which at one a microsecond is half a million years.
 const TRIES: u64 = 18446744073709551615;
 
+// The system's numbers of the two failures that pass.
+const EINTR: i32 = 4;
+
+const EAGAIN: i32 = 11;
+
 // What an error's number says.
 fn fault_of(error: i32) -> Fault
     ensures { result ≡ fault_of error }
 {
-    if error == libc::EINTR {
+    if error == EINTR {
         return Fault::Interrupted;
     }
-    if error == libc::EAGAIN {
+    if error == EAGAIN {
         return Fault::NotReady;
     }
     Fault::Broken
 }
 
+// What an error says: the system's by its number, and no other passes.
+fn fault_seen(error: Error) -> Fault
+    ensures { result ≡ fault_seen (raw_os_error error) }
+{
+    match error.raw_os_error() {
+        Some(number) => fault_of(number),
+        None => Fault::Broken,
+    }
+}
+
 // A wait, for input to come or room for output.
 fn pause() {
-    libc::sched_yield();
+    thread::yield_now();
 }
 
 // After a call that failed: whether it is made again, after a wait where nothing could be moved yet.
-fn after_failure(what: &[u8]) -> Tried
+fn after_failure(rt: &impl Eprint, what: &str, error: Error) -> Tried
     ensures { NoneMoved result }
 {
-    match fault_of(os::errno()) {
+    match fault_seen(error) {
         Fault::Interrupted => Tried::Again,
         Fault::NotReady => {
             pause();
             Tried::Again
         }
         Fault::Broken => {
-            os::fail(what);
+            let _ = eprintln!(rt; "{what}: {error}");
             Tried::Failed
         }
     }
 }
 
 // One read, after the n bytes that are held: those stay.
-fn read_once(held: &mut [u8], n: usize) -> Tried
+fn read_once<R: Read>(rt: &impl Eprint, input: &mut R, held: &mut [u8], n: usize) -> Tried
     requires { n ≤ length held.old }
     ensures { TriedRead n held.old result held.new }
 {
-    let got = libc::read(STDIN_FILENO, &mut held[n..]);
-    if got < 0 {
-        return after_failure(b"standard input");
+    let got = input.read(&mut held[n..]);
+    match got {
+        Ok(more) => Tried::Moved(more),
+        Err(error) => after_failure(rt, "standard input", error),
     }
-    let text = &held[..];
-    Tried::Moved(io::count(got, &text[n..]))
 }
 
 // What a read that brought so many bytes says: none is the end.
@@ -94,7 +110,7 @@ fn brought(more: usize) -> Came
 }
 
 // More input, after the n bytes that are held: those stay. Without room for a byte it fails.
-pub fn read_after(held: &mut [u8], n: usize) -> Came
+pub fn read_after<R: Read>(rt: &impl Eprint, input: &mut R, held: &mut [u8], n: usize) -> Came
     ensures { ReadAfter n held.old result held.new }
 {
     if held.len() <= n {
@@ -103,7 +119,7 @@ pub fn read_after(held: &mut [u8], n: usize) -> Came
     let mut tries = TRIES;
     while tries > 0 {
         tries -= 1;
-        let tried = read_once(held, n);
+        let tried = read_once(rt, input, held, n);
         match tried {
             Tried::Moved(more) => return brought(more),
             Tried::Failed => return Came::Failed,
@@ -114,12 +130,12 @@ pub fn read_after(held: &mut [u8], n: usize) -> Came
 }
 
 // Input from the start of `held` on, until it is full or the input ends.
-pub fn read_full(held: &mut [u8]) -> Came
+pub fn read_full<R: Read>(rt: &impl Eprint, input: &mut R, held: &mut [u8]) -> Came
     ensures { ReadAfter 0 held.old result held.new }
 {
     let mut n = 0;
     while n < held.len() {
-        let came = read_after(held, n);
+        let came = read_after(rt, input, held, n);
         match came {
             Came::Bytes(more) => n += more,
             Came::End => return brought(n),
@@ -130,23 +146,22 @@ pub fn read_full(held: &mut [u8]) -> Came
 }
 
 // One write of what stands from `from` on. Where nothing was taken it may be made again.
-fn write_once(text: &[u8], from: usize) -> Tried
+fn write_once<W: Write>(rt: &impl Eprint, output: &mut W, text: &[u8], from: usize) -> Tried
     requires { from ≤ length text.now }
     ensures { MovedIn from (length text.now) result }
 {
-    let got = libc::write(STDOUT_FILENO, &text[from..]);
-    if got < 0 {
-        return after_failure(b"standard output");
+    match output.write(&text[from..]) {
+        Ok(0) => {
+            pause();
+            Tried::Again
+        }
+        Ok(more) => Tried::Moved(more),
+        Err(error) => after_failure(rt, "standard output", error),
     }
-    if got == 0 {
-        pause();
-        return Tried::Again;
-    }
-    Tried::Moved(io::count(got, &text[from..]))
 }
 
 // Writes the text, each part after the one before: how many bytes were taken, all of them unless a write failed.
-pub fn write_out(text: &[u8]) -> usize
+pub fn write_out<W: Write>(rt: &impl Eprint, output: &mut W, text: &[u8]) -> usize
     ensures { result ≤ length text.now }
 {
     let mut done = 0;
@@ -156,7 +171,7 @@ pub fn write_out(text: &[u8]) -> usize
             return done;
         }
         tries -= 1;
-        let tried = write_once(text, done);
+        let tried = write_once(rt, output, text, done);
         match tried {
             Tried::Moved(more) => done += more,
             Tried::Failed => return done,
