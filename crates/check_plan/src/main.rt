@@ -5,19 +5,19 @@
 use streams::Came;
 
 // Prints what the check says of the text.
-fn checked(text: &[u8]) {
-    let mut out = io::large_buffer();
+fn checked(rt: &HostRuntime, text: &[u8]) {
+    let mut out = [0u8; 65536];
     let printed = console::check::check_output(text, &mut out);
-    streams::write_out(&out[..printed]);
+    streams::write_out(rt, &mut rt.stdout(), &out[..printed]);
 }
 
 // What follows the first 65,536 bytes does not matter: a plan's text is shorter, so these decide the output (check-stays in console).
-fn main() {
-    let mut text = io::large_buffer();
-    let came = streams::read_full(&mut text);
+fn main(rt: HostRuntime) {
+    let mut text = [0u8; 65536];
+    let came = streams::read_full(&rt, &mut rt.stdin(), &mut text);
     match came {
-        Came::Bytes(n) => checked(&text[..n]),
-        Came::End => checked(b""),
+        Came::Bytes(n) => checked(&rt, &text[..n]),
+        Came::End => checked(&rt, b""),
         Came::Failed => {}
     }
 }

@@ -7,6 +7,7 @@ ghost use Rattle.console.specs.Console.{run_room};
 ghost use Rattle.run_plan.specs.Loop.{Answered, AtRest, Ended, Moved, Standing, Taken, Turned};
 
 use console::run::{Console, RUN_ROOM};
+use std::io::{Eprint, Read, Write};
 use streams::Came;
 
 // A plan's text at most: its two first lines, five lines for each job and one for each slot. A console that waits holds less.
@@ -48,7 +49,14 @@ fn answered(c: Console, text: &[u8], at: usize, n: usize, out: &mut [u8]) -> Lef
 }
 
 // Events until the console waits, each printed before the next one. Where it does not wait, a write has failed.
-fn settled(c: Console, text: &[u8], n: usize, out: &mut [u8]) -> Left
+fn settled<W: Write>(
+    rt: &impl Eprint,
+    output: &mut W,
+    c: Console,
+    text: &[u8],
+    n: usize,
+    out: &mut [u8],
+) -> Left
     requires { (n ≤ length text.now) × (run_room ≤ length out.old) }
     ensures at_rest { AtRest c text.now n result }
     ensures out_len_unchanged { length out.new ≡ length out.old }
@@ -56,7 +64,7 @@ fn settled(c: Console, text: &[u8], n: usize, out: &mut [u8]) -> Left
     let mut left = answered(c, text, 0, n, out);
     while !left.waiting {
         let printed = left.printed;
-        if streams::write_out(&out[..printed]) < printed {
+        if streams::write_out(rt, output, &out[..printed]) < printed {
             return left;
         }
         let now = left.console;
@@ -92,12 +100,19 @@ fn over(c: Console) -> Going
 }
 
 // The n bytes that are held are answered as far as they go; the rest is then held at the front.
-fn taken(c: Console, held: &mut [u8], n: usize, out: &mut [u8]) -> Going
+fn taken<W: Write>(
+    rt: &impl Eprint,
+    output: &mut W,
+    c: Console,
+    held: &mut [u8],
+    n: usize,
+    out: &mut [u8],
+) -> Going
     requires { (n ≤ length held.old) × (run_room ≤ length out.old) }
     ensures taken { Taken c n held.old result held.new }
     ensures out_len_unchanged { length out.new ≡ length out.old }
 {
-    let left = settled(c, &held[..], n, out);
+    let left = settled(rt, output, c, &held[..], n, out);
     let after = left.console;
     let at = left.at;
     if !left.waiting {
@@ -123,17 +138,25 @@ fn ended(c: Console, text: &[u8], n: usize, out: &mut [u8]) -> usize
 }
 
 // One read, and all that can then be answered; at the end of input the last lines. A read that fails prints nothing.
-fn turn(c: Console, held: &mut [u8], n: usize, out: &mut [u8]) -> Going
+fn turn<R: Read, W: Write>(
+    rt: &impl Eprint,
+    input: &mut R,
+    output: &mut W,
+    c: Console,
+    held: &mut [u8],
+    n: usize,
+    out: &mut [u8],
+) -> Going
     requires { Standing c (take n held.old) × (n < length held.old) × (run_room ≤ length out.old) }
     ensures turned { Turned c n held.old result held.new }
     ensures out_len_unchanged { length out.new ≡ length out.old }
 {
-    let came = streams::read_after(held, n);
+    let came = streams::read_after(rt, input, held, n);
     match came {
-        Came::Bytes(more) => taken(c, held, n + more, out),
+        Came::Bytes(more) => taken(rt, output, c, held, n + more, out),
         Came::End => {
             let printed = ended(c, &held[..], n, out);
-            streams::write_out(&out[..printed]);
+            streams::write_out(rt, output, &out[..printed]);
             over(c)
         }
         Came::Failed => over(c),
@@ -141,7 +164,9 @@ fn turn(c: Console, held: &mut [u8], n: usize, out: &mut [u8]) -> Going
 }
 
 // The count of reads is there so that the loop is seen to end: at one a microsecond it lasts half a million years.
-fn main() {
+fn main(rt: HostRuntime) {
+    let mut input = rt.stdin();
+    let mut output = rt.stdout();
     let mut held = [0u8; HELD];
     let mut out = [0u8; RUN_ROOM];
     let mut going = Going {
@@ -156,7 +181,9 @@ fn main() {
         }
         reads -= 1;
         let c = going.console;
-        let next = turn(c, &mut held, going.n, &mut out);
+        let next = turn(
+            &rt, &mut input, &mut output, c, &mut held, going.n, &mut out,
+        );
         going = next;
     }
 }

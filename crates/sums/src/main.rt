@@ -7,14 +7,16 @@ mod records;
 mod runs;
 mod texts;
 
-fn main() {
-    texts::limits();
-    texts::bad_numbers();
-    texts::bad_lines();
-    texts::cut_at_every_byte();
-    records::limits();
-    records::large_numbers();
-    records::room();
-    runs::out_of_turn();
-    runs::incoherent();
+use std::io;
+
+fn main(rt: HostRuntime) -> io::Result<()> {
+    texts::limits(&rt)?;
+    texts::bad_numbers(&rt)?;
+    texts::bad_lines(&rt)?;
+    texts::cut_at_every_byte(&rt)?;
+    records::limits(&rt)?;
+    records::large_numbers(&rt)?;
+    records::room(&rt)?;
+    runs::out_of_turn(&rt)?;
+    runs::incoherent(&rt)
 }

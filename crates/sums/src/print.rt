@@ -1,21 +1,21 @@
 // Printing of a case: its name, then the answer's number and place.
 use answers::Answer;
-use libc::STDOUT_FILENO;
+use std::io;
 
-pub(crate) fn words(s: &[u8]) {
-    io::write_all(STDOUT_FILENO, s);
+pub(crate) fn words(rt: &impl Print, s: &str) -> io::Result<()> {
+    rt.print(s)
 }
 
-pub(crate) fn number(n: usize) {
-    io::print_decimal(STDOUT_FILENO, n as u64);
+pub(crate) fn number(rt: &impl Print, n: usize) -> io::Result<()> {
+    rt.print(n)
 }
 
 // `name: number,place`
-pub(crate) fn answer(name: &[u8], a: Answer) {
-    words(name);
-    words(b": ");
-    number(answers::number_of(a) as usize);
-    words(b",");
-    number(answers::first_place(a));
-    words(b"\n");
+pub(crate) fn answer(rt: &impl Print, name: &str, a: Answer) -> io::Result<()> {
+    words(rt, name)?;
+    words(rt, ": ")?;
+    number(rt, answers::number_of(a) as usize)?;
+    words(rt, ",")?;
+    number(rt, answers::first_place(a))?;
+    words(rt, "\n")
 }

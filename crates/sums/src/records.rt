@@ -1,6 +1,7 @@
 // Plan records that no text has, written: limits, numbers above 9999, and lent buffers that are short by a byte or just fit.
 use super::print;
 use plan::{Job, Level, Plan};
+use std::io;
 
 // One HI job over N slots, its table slot the first.
 fn small(slots: u16) -> Plan {
@@ -19,52 +20,54 @@ fn small(slots: u16) -> Plan {
 }
 
 // How the record is written into `out`, and whether the first byte was touched.
-fn written(name: &[u8], p: Plan, out: &mut [u8]) {
+fn written(rt: &impl Print, name: &str, p: Plan, out: &mut [u8]) -> io::Result<()> {
     let answer = plan_text::writer::write_plan(p, out);
-    print::answer(name, answer);
+    print::answer(rt, name, answer)?;
     if 0 < out.len() {
         if out[0] == b'.' {
-            print::words(b"  output as it was\n");
+            print::words(rt, "  output as it was\n")?;
         } else {
-            print::words(b"  output written\n");
+            print::words(rt, "  output written\n")?;
         }
     }
+    Ok(())
 }
 
-pub(crate) fn limits() {
+pub(crate) fn limits(rt: &impl Print) -> io::Result<()> {
     let mut out = [b'.'; 100];
-    written(b"write N = 0", small(0), &mut out);
-    written(b"write N = 513", small(513), &mut out);
+    written(rt, "write N = 0", small(0), &mut out)?;
+    written(rt, "write N = 513", small(513), &mut out)?;
     let mut p = small(2);
     p.jobs = 0;
-    written(b"write n = 0", p, &mut out);
+    written(rt, "write n = 0", p, &mut out)?;
     p.jobs = 33;
-    written(b"write n = 33", p, &mut out);
+    written(rt, "write n = 33", p, &mut out)
 }
 
-pub(crate) fn large_numbers() {
+pub(crate) fn large_numbers(rt: &impl Print) -> io::Result<()> {
     let mut out = [b'.'; 100];
     let mut p = small(2);
     p.job[0].hi = 10000;
-    written(b"write hi = 10000", p, &mut out);
+    written(rt, "write hi = 10000", p, &mut out)?;
     p.job[0].release = 65535;
-    written(b"write release = 65535", p, &mut out);
+    written(rt, "write release = 65535", p, &mut out)?;
     let mut q = small(2);
     q.table[1] = 10000;
-    written(b"write slot 1 = 10000", q, &mut out);
+    written(rt, "write slot 1 = 10000", q, &mut out)
 }
 
 // The text of the small plan with two slots has 69 bytes.
-pub(crate) fn room() {
+pub(crate) fn room(rt: &impl Print) -> io::Result<()> {
     let mut none: [u8; 0] = [];
-    written(b"write into 0 bytes", small(2), &mut none);
+    written(rt, "write into 0 bytes", small(2), &mut none)?;
     let mut short = [b'.'; 68];
-    written(b"write into 68 bytes", small(2), &mut short);
+    written(rt, "write into 68 bytes", small(2), &mut short)?;
     let mut fits = [b'.'; 69];
-    written(b"write into 69 bytes", small(2), &mut fits);
+    written(rt, "write into 69 bytes", small(2), &mut fits)?;
     let mut more = [b'.'; 70];
-    written(b"write into 70 bytes", small(2), &mut more);
+    written(rt, "write into 70 bytes", small(2), &mut more)?;
     if more[69] == b'.' {
-        print::words(b"  byte past the text as it was\n");
+        print::words(rt, "  byte past the text as it was\n")?;
     }
+    Ok(())
 }

@@ -3,6 +3,7 @@ use super::print;
 use entries::{Entry, Kind, Standing};
 use executive::{Report, Run};
 use plan::Plan;
+use std::io;
 
 fn plan_a() -> Plan {
     let read = plan_text::reader::read_plan(
@@ -12,58 +13,60 @@ fn plan_a() -> Plan {
 }
 
 // The report's answer, and the run handed back.
-fn stepped(name: &[u8], r: Run, slot: u16, kind: Kind) -> Run {
+fn stepped(rt: &impl Print, name: &str, r: Run, slot: u16, kind: Kind) -> io::Result<Run> {
     let done = r.step(Report { slot, kind });
     let answer = done.answer;
-    print::answer(name, answer);
-    done.run
+    print::answer(rt, name, answer)?;
+    Ok(done.run)
 }
 
 // A report for slot 2 at t = 1 is refused 12 at 1, and slot 1 can still be reported.
-pub(crate) fn out_of_turn() {
+pub(crate) fn out_of_turn(rt: &impl Print) -> io::Result<()> {
     let p = plan_a();
     let started = executive::start(p);
     let answer = started.answer;
-    print::answer(b"start A", answer);
-    let a = stepped(b"slot 0 more", started.run, 0, Kind::More);
-    let b = stepped(b"slot 2 at t = 1", a, 2, Kind::More);
-    let c = stepped(b"none for a slot with a job", b, 1, Kind::None);
-    let d = stepped(b"slot 1 more", c, 1, Kind::More);
-    stepped(b"slot 2 end", d, 2, Kind::End);
+    print::answer(rt, "start A", answer)?;
+    let a = stepped(rt, "slot 0 more", started.run, 0, Kind::More)?;
+    let b = stepped(rt, "slot 2 at t = 1", a, 2, Kind::More)?;
+    let c = stepped(rt, "none for a slot with a job", b, 1, Kind::None)?;
+    let d = stepped(rt, "slot 1 more", c, 1, Kind::More)?;
+    stepped(rt, "slot 2 end", d, 2, Kind::End)?;
+    Ok(())
 }
 
-pub(crate) fn incoherent() {
+pub(crate) fn incoherent(rt: &impl Print) -> io::Result<()> {
     let p = plan_a();
     let started = executive::start(p);
     let r = started.run;
     let mut late = r;
     late.t = 9;
-    stepped(b"t above N", late, 9, Kind::More);
+    stepped(rt, "t above N", late, 9, Kind::More)?;
     let mut row = r;
     row.hi[0] = 3;
-    stepped(b"HI spare off by one", row, 0, Kind::More);
+    stepped(rt, "HI spare off by one", row, 0, Kind::More)?;
     let mut low = r;
     low.lo[1] = 3;
-    stepped(b"LO spare off by one", low, 0, Kind::More);
+    stepped(rt, "LO spare off by one", low, 0, Kind::More)?;
     let mut given = r;
     given.entry[0] = Entry {
         standing: Standing::Waiting,
         given: 4,
     };
-    stepped(b"live with its whole budget", given, 0, Kind::More);
+    stepped(rt, "live with its whole budget", given, 0, Kind::More)?;
     let mut ended = r;
     ended.entry[1] = Entry {
         standing: Standing::Finished(1),
         given: 1,
     };
-    stepped(b"ended after t", ended, 0, Kind::More);
+    stepped(rt, "ended after t", ended, 0, Kind::More)?;
     let mut broken = plan_a();
     broken.job[0].deadline = 9;
     let mut windows = r;
     windows.plan = broken;
-    stepped(b"a plan that breaks 4", windows, 0, Kind::More);
+    stepped(rt, "a plan that breaks 4", windows, 0, Kind::More)?;
     let mut over = executive::blank_run();
     over.t = 1;
-    stepped(b"the blank run", over, 0, Kind::None);
-    stepped(b"the run itself", r, 0, Kind::End);
+    stepped(rt, "the blank run", over, 0, Kind::None)?;
+    stepped(rt, "the run itself", r, 0, Kind::End)?;
+    Ok(())
 }

@@ -1,95 +1,119 @@
 // Plan texts: the limits, what is not of the form, and a small plan cut at every byte.
+ghost use Rattle.std.specs.Prelude.{◌≤◌, length, IfOk};
+
 use super::print;
+use std::fs::File;
+use std::io;
+use std::io::Read;
+use std::rt::Files;
 
 // How the text is answered.
-fn text(name: &[u8], s: &[u8]) {
+fn text(rt: &impl Print, name: &str, s: &[u8]) -> io::Result<()> {
     let read = plan_text::reader::read_plan(s);
     let answer = read.answer;
-    print::answer(name, answer);
+    print::answer(rt, name, answer)
+}
+
+// The file's bytes from the start of the buffer on, until it is full or the file ends: how many they are.
+fn read_full<R: Read>(input: &mut R, buffer: &mut [u8]) -> io::Result<usize>
+    ensures { IfOk result (λ n. n ≤ length buffer.new) }
+{
+    let mut n = 0;
+    while n < buffer.len() {
+        let more = input.read(&mut buffer[n..])?;
+        if more == 0 {
+            return Ok(n);
+        }
+        n += more;
+    }
+    Ok(n)
 }
 
 // How a file of data/ is answered.
-fn file(path: &[u8]) {
-    let fd = os::open_read(path);
-    if fd < 0 {
-        os::fail(path);
-        return;
-    }
-    let mut buffer = io::large_buffer();
-    let n = io::read_full(fd, &mut buffer);
-    libc::close(fd);
-    text(path, &buffer[..n]);
+fn file(rt: &(impl Files + Print), path: &str) -> io::Result<()> {
+    let mut input = File::open(rt, path)?;
+    let mut buffer = [0u8; 65536];
+    let n = read_full(&mut input, &mut buffer)?;
+    text(rt, path, &buffer[..n])
 }
 
-pub(crate) fn limits() {
-    text(b"empty text", b"");
-    text(b"slots=08", b"slots=08\n");
-    text(b"slots=0", b"slots=0\njobs=1\n");
-    text(b"slots=513", b"slots=513\n");
-    text(b"slots=513, no LF", b"slots=513");
-    text(b"slots=513, then rubbish", b"slots=513\nrubbish");
-    text(b"jobs=0", b"slots=4\njobs=0\n");
-    text(b"jobs=33", b"slots=4\njobs=33\n");
-    text(b"jobs=33, then rubbish", b"slots=4\njobs=33\nrubbish\n");
-    file(b"largest.plan");
-    file(b"largest_and_more.plan");
-    file(b"digits.plan");
+pub(crate) fn limits(rt: &(impl Files + Print)) -> io::Result<()> {
+    text(rt, "empty text", b"")?;
+    text(rt, "slots=08", b"slots=08\n")?;
+    text(rt, "slots=0", b"slots=0\njobs=1\n")?;
+    text(rt, "slots=513", b"slots=513\n")?;
+    text(rt, "slots=513, no LF", b"slots=513")?;
+    text(rt, "slots=513, then rubbish", b"slots=513\nrubbish")?;
+    text(rt, "jobs=0", b"slots=4\njobs=0\n")?;
+    text(rt, "jobs=33", b"slots=4\njobs=33\n")?;
+    text(rt, "jobs=33, then rubbish", b"slots=4\njobs=33\nrubbish\n")?;
+    file(rt, "largest.plan")?;
+    file(rt, "largest_and_more.plan")?;
+    file(rt, "digits.plan")
 }
 
-pub(crate) fn bad_numbers() {
-    text(b"five digits", b"slots=00008\n");
-    text(b"five digits, no zero", b"slots=10000\n");
-    text(b"plus sign", b"slots=+8\n");
-    text(b"minus sign", b"slots=-8\n");
-    text(b"blank before", b"slots= 8\n");
-    text(b"blank after", b"slots=8 \n");
-    text(b"empty value", b"slots=\n");
-    text(b"letter", b"slots=8a\n");
-    text(b"zero twice", b"slots=4\njobs=00\n");
+pub(crate) fn bad_numbers(rt: &impl Print) -> io::Result<()> {
+    text(rt, "five digits", b"slots=00008\n")?;
+    text(rt, "five digits, no zero", b"slots=10000\n")?;
+    text(rt, "plus sign", b"slots=+8\n")?;
+    text(rt, "minus sign", b"slots=-8\n")?;
+    text(rt, "blank before", b"slots= 8\n")?;
+    text(rt, "blank after", b"slots=8 \n")?;
+    text(rt, "empty value", b"slots=\n")?;
+    text(rt, "letter", b"slots=8a\n")?;
+    text(rt, "zero twice", b"slots=4\njobs=00\n")
 }
 
-pub(crate) fn bad_lines() {
-    text(b"CRLF", b"slots=8\r\njobs=2\r\n");
-    text(b"NUL", b"slots=8\n\0jobs=2\n");
-    text(b"wrong key", b"slots=8\njob=2\n");
-    text(b"repeated key", b"slots=8\nslots=8\n");
-    text(b"key in capitals", b"SLOTS=8\n");
-    text(b"no equals sign", b"slots8\n");
-    text(b"empty line first", b"\nslots=8\n");
-    text(b"empty line between", b"slots=8\n\njobs=2\n");
-    text(b"level in lower case", b"slots=1\njobs=1\nlevel=hi\n");
-    text(b"level of one letter", b"slots=1\njobs=1\nlevel=H\n");
+pub(crate) fn bad_lines(rt: &impl Print) -> io::Result<()> {
+    text(rt, "CRLF", b"slots=8\r\njobs=2\r\n")?;
+    text(rt, "NUL", b"slots=8\n\0jobs=2\n")?;
+    text(rt, "wrong key", b"slots=8\njob=2\n")?;
+    text(rt, "repeated key", b"slots=8\nslots=8\n")?;
+    text(rt, "key in capitals", b"SLOTS=8\n")?;
+    text(rt, "no equals sign", b"slots8\n")?;
+    text(rt, "empty line first", b"\nslots=8\n")?;
+    text(rt, "empty line between", b"slots=8\n\njobs=2\n")?;
+    text(rt, "level in lower case", b"slots=1\njobs=1\nlevel=hi\n")?;
+    text(rt, "level of one letter", b"slots=1\njobs=1\nlevel=H\n")?;
     text(
-        b"a line missing",
+        rt,
+        "a line missing",
         b"slots=1\njobs=1\nlevel=HI\nrelease=0\nlo=1\n",
-    );
+    )?;
     text(
-        b"smallest plan",
+        rt,
+        "smallest plan",
         b"slots=1\njobs=1\nlevel=HI\nrelease=0\ndeadline=1\nlo=1\nhi=1\nslot=1\n",
-    );
+    )?;
     text(
-        b"one byte more",
+        rt,
+        "one byte more",
         b"slots=1\njobs=1\nlevel=HI\nrelease=0\ndeadline=1\nlo=1\nhi=1\nslot=1\n\n",
-    );
+    )?;
     text(
-        b"one slot more",
+        rt,
+        "one slot more",
         b"slots=1\njobs=1\nlevel=HI\nrelease=0\ndeadline=1\nlo=1\nhi=1\nslot=1\nslot=0\n",
-    );
+    )
 }
 
 // A text cut short is refused 1 at the line that is missing or unfinished.
-fn cut(whole: &[u8], k: usize) {
-    text(b"cut", lines::reading::value(whole, 0, k));
+fn cut(rt: &impl Print, whole: &[u8], k: usize) -> io::Result<()> {
+    text(rt, "cut", lines::reading::value(whole, 0, k))
 }
 
-fn cuts(whole: &[u8]) {
+fn cuts(rt: &impl Print, whole: &[u8]) -> io::Result<()> {
     let mut k = 0;
     while k < whole.len() {
-        cut(whole, k);
+        cut(rt, whole, k)?;
         k += 1;
     }
+    Ok(())
 }
 
-pub(crate) fn cut_at_every_byte() {
-    cuts(b"slots=1\njobs=1\nlevel=LO\nrelease=0\ndeadline=1\nlo=1\nhi=1\nslot=0\n");
+pub(crate) fn cut_at_every_byte(rt: &impl Print) -> io::Result<()> {
+    cuts(
+        rt,
+        b"slots=1\njobs=1\nlevel=LO\nrelease=0\ndeadline=1\nlo=1\nhi=1\nslot=0\n",
+    )
 }
