@@ -112,7 +112,7 @@ above_first m e b (y ∷ ys) top r l d least =
     by_less m y
     (λ h.
     let q : e ≡ y = ⊎_elim (λ s. s) (λ n. absurd (omega (arith, least y (mathlib.Core.List.Memᴰ.head refl) h, rises_over y ys top e r.1 n))) (mathlib.Core.List.Memᴰ.cases_cons d) in
-    rw (q, lt-ltb m y h, le-ltb y y (omega arith), above_all m y ys top (omega arith) r.1, above_all y y ys top (omega arith) r.1))
+    rw (lt-ltb m y h, le-ltb e y (omega arith), above_all m y ys top (omega arith) r.1, above_all e y ys top (omega arith) r.1, q))
     (λ h.
     let later : Memᴰ e ys = ⊎_elim (λ s. absurd (omega arith)) (λ n. n) (mathlib.Core.List.Memᴰ.cases_cons d) in
     rw (le-ltb m y h, le-ltb e y (omega arith)) (above_first m e y ys top r.1 l later (λ x n. least x (mathlib.Core.List.Memᴰ.tail n))))

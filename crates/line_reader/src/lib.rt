@@ -1,5 +1,5 @@
 // The line reader: it holds the caller's text and its place, and goes from line to line. Each function over it takes it apart and leaves
-// the work to a covered one on slice and number. `find_value` and `part_from` have plain parameters, so their callers need no walk.
+// the work to one on slice and number.
 // What a line means is in lines and above.
 #![tactic(auto)]
 
@@ -16,6 +16,7 @@ pub struct LineReader<'a> {
 }
 
 // The work: where the value of the line at `at` stands. The key goes first: the LF is looked for only behind it.
+#[tactic(auto, using(lines::specs::ReadingLaws::value_other, lines::specs::ReadingLaws::key_fits, lines::specs::ReadingLaws::value_unclosed, lines::specs::ReadingLaws::value_found))]
 fn value_at(text: &[u8], at: usize, key: &[u8]) -> ValueAt
     ensures { result ≡ value_at text.now at key.now }
 {
@@ -118,6 +119,7 @@ pub fn part_from<'a>(text: &'a [u8], start: usize, len: usize) -> &'a [u8]
 }
 
 // The number on the line at `at`, which has the key.
+#[tactic(auto, using(lines::specs::ReadingLaws::number_refused))]
 pub fn number_field(text: &[u8], at: usize, key: &[u8]) -> NumberAt
     ensures { result ≡ number_at text.now at key.now }
 {

@@ -4,6 +4,7 @@ ghost use Rattle.words.specs.Words.{◌≤?◌};
 ghost use Rattle.lines.specs.Lines.{lines_in};
 
 // At least `count` lines are complete: one pass, which ends with the last of them.
+#[tactic(auto, using(crate::proofs::Steps::lines_hit, crate::proofs::Steps::lines_miss, crate::proofs::Steps::lines_out))]
 pub fn has_lines(text: &[u8], count: usize) -> bool
     ensures { result ≡ (count ≤? lines_in text.now) }
 {

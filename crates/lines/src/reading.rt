@@ -29,6 +29,7 @@ pub enum NumberAt {
 }
 
 // The place of the LF that closes the line at `at`; the end of the text where none does. A place at or past the end is its own answer.
+#[tactic(auto, using(crate::proofs::Steps::length_hit, crate::proofs::Steps::length_miss, crate::proofs::Steps::length_out))]
 pub fn line_end(text: &[u8], at: usize) -> usize
     ensures { result ≡ at + line_length (drop at text.now) }
 {
@@ -43,6 +44,7 @@ pub fn line_end(text: &[u8], at: usize) -> usize
 }
 
 // The line at `at` begins with the key. No more of the line is looked at than the key is long.
+#[tactic(auto, using(crate::proofs::Steps::key_done, crate::proofs::Steps::key_out, crate::proofs::Steps::key_lf, crate::proofs::Steps::key_other, crate::proofs::Steps::key_on))]
 pub fn key_at(text: &[u8], at: usize, key: &[u8]) -> bool
     ensures { result ≡ begins key.now (line_here text.now at) }
 {
@@ -66,6 +68,7 @@ pub fn key_at(text: &[u8], at: usize, key: &[u8]) -> bool
 }
 
 // The line begins with the key.
+#[tactic(auto, using(crate::proofs::Steps::begins_done, crate::proofs::Steps::begins_short, crate::proofs::Steps::begins_on, crate::proofs::Steps::begins_stop))]
 pub fn begins_with(line: &[u8], key: &[u8]) -> bool
     ensures { result ≡ begins key.now line.now }
 {
@@ -83,6 +86,7 @@ pub fn begins_with(line: &[u8], key: &[u8]) -> bool
 }
 
 // The two are the same bytes.
+#[tactic(auto, using(crate::specs::ReadingLaws::same_length, crate::specs::ReadingLaws::same_begins))]
 pub fn same_bytes(s: &[u8], word: &[u8]) -> bool
     ensures { result ≡ same_bytes s.now word.now }
 {
@@ -112,6 +116,7 @@ fn wide(x: u8) -> u16
 }
 
 // The number that at most four digits make.
+#[tactic(auto, using(crate::proofs::Steps::digits_done, crate::proofs::Steps::digits_on, crate::proofs::Steps::digits_low, crate::proofs::Steps::digits_high, crate::proofs::Steps::room))]
 fn digits_number(s: &[u8]) -> Number
     requires { length s.now ≤ 4 }
     ensures { result ≡ number_read (number_from 0 s.now) }
@@ -133,6 +138,7 @@ fn digits_number(s: &[u8]) -> Number
 }
 
 // The number that the value is: 1 to 4 digits and no leading zero.
+#[tactic(auto, using(crate::specs::ReadingLaws::number_long, crate::specs::ReadingLaws::number_none, crate::specs::ReadingLaws::number_zero, crate::specs::ReadingLaws::number_one, crate::specs::ReadingLaws::number_more))]
 pub fn read_number(s: &[u8]) -> Number
     ensures { result ≡ number_read (number s.now) }
 {

@@ -16,6 +16,7 @@ fn has_room(room: usize, at: usize, len: usize) -> bool
 }
 
 // All of w at `at`.
+#[tactic(auto, using(crate::specs::WritingLaws::put_refused, crate::specs::WritingLaws::after_refused, crate::specs::WritingLaws::after_fits))]
 pub fn put_bytes(out: &mut [u8], at: usize, w: &[u8]) -> usize
     ensures value { result ≡ place_after at w.now out.old }
     ensures out_after { out.new ≡ put_fit at w.now out.old }
@@ -32,6 +33,7 @@ pub fn put_bytes(out: &mut [u8], at: usize, w: &[u8]) -> usize
 }
 
 // How many digits n has.
+#[tactic(auto, using(crate::specs::NumberLaws::digits_one, crate::specs::WritingLaws::digits_shorter))]
 pub fn number_len(n: u32) -> usize
     ensures { result ≡ length (digits n) }
 {
@@ -53,6 +55,7 @@ fn digit(d: u32) -> u8
 }
 
 // The digits of n at `at`, from the last to the first.
+#[tactic(auto, using(crate::specs::WritingLaws::put_refused, crate::specs::WritingLaws::after_refused, crate::specs::WritingLaws::put_fits, crate::specs::WritingLaws::after_fits, crate::specs::WritingLaws::digits_shorter, crate::specs::WritingLaws::digits_bound, crate::specs::WritingLaws::tail_start, crate::specs::WritingLaws::tail_room, crate::specs::WritingLaws::tail_more, crate::specs::WritingLaws::tail_done))]
 pub fn put_number(out: &mut [u8], at: usize, n: u32) -> usize
     ensures value { result ≡ place_after at (digits n) out.old }
     ensures out_after { out.new ≡ put_fit at (digits n) out.old }
@@ -73,6 +76,7 @@ pub fn put_number(out: &mut [u8], at: usize, n: u32) -> usize
 }
 
 // A whole line: the key, the digits of n, LF.
+#[tactic(auto, using(crate::specs::WritingLaws::put_refused, crate::specs::WritingLaws::after_refused, crate::specs::WritingLaws::put_fits, crate::specs::WritingLaws::after_fits, crate::specs::WritingLaws::fit_then, crate::specs::WritingLaws::digits_bound, crate::specs::WritingLaws::line_length_lem, crate::specs::WritingLaws::key_room))]
 pub fn put_line(out: &mut [u8], at: usize, key: &[u8], n: u32) -> usize
     ensures value { result ≡ place_after at (number_line_of key.now n) out.old }
     ensures out_after { out.new ≡ put_fit at (number_line_of key.now n) out.old }

@@ -1,0 +1,21 @@
+-- `writing::put_bytes`: one byte more is pasted, and all of them pasted are the piece put.
+use Rattle.std.proofs.Common.{◌≡◌, ◌∙◌, sym, length, arith, length-set}
+use Rattle.std.proofs.Math.Seq.{take-length}
+use Rattle.std.proofs.lemmas.List.Edits.{paste_more}
+use Rattle.lines.specs.Writing.{put}
+use Rattle.lines.specs.WritingLaws.{put_fits}
+use Rattle.lines.proofs.writing.put_bytes.Goals as goal
+
+pub loop-j-preserved : goal.loop-j-preserved
+loop-j-preserved c = record {
+  within = omega arith;
+  text = rw c.loop-j.invariant.text (paste_more c.args.out.now c.args.at c.args.w.now c.loop-j.j 0 (omega arith) (omega arith));
+  room = simp length-set c.loop-j.invariant.room;
+}
+
+pub returns-clause-out_after : goal.returns-clause-out_after
+unfolding put
+returns-clause-out_after c =
+    let e : c.loop-j.j ≡ length c.args.w.now = omega arith in
+    let p : c.loop-j.out ≡ put c.args.at c.args.w.now c.args.out.now = c.loop-j.invariant.text ∙ rw (e, take-length) in
+    p ∙ sym (put_fits c.args.at c.args.w.now c.args.out.now (omega arith))

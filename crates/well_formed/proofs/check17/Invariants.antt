@@ -1,0 +1,25 @@
+-- `check17` meets its contract: the answer from a job on is the whole answer.
+use Prim.Native.Nat.{ℕ, ◌+◌, ◌-◌, ◌≤◌}
+use native.Mathlib.Omega.{arith}
+use mathlib.Core.Bool.{Bool}
+use mathlib.Core.Path.{◌≡◌, refl, ◌∙◌}
+use lib.ListN.{length, take, drop}
+use borrow.Author.Rules.{rules}
+use borrow.Author.Tests.{le-leb, lt-leb}
+use Rattle.words.specs.Words.{◌≤?◌}
+use Rattle.answers.specs.declared.Answer.{Answer}
+use Rattle.answers.specs.declared.Answer.TheVariants.{Chopped}
+use Rattle.answers.specs.Answer.{accepted, first_refusal, ◌unless◌}
+use Rattle.answers.specs.AnswerLaws.{first_end_lem, rule_on, rule_found}
+use Rattle.plan.specs.Limits.{max_jobs}
+use Rattle.well_formed.specs.Runs.{max_runs}
+use Rattle.well_formed.proofs.check17.Given as goal
+
+abbrev pub judge : ℕ → ℕ → Answer
+judge k n = Chopped k unless (n ≤? max_runs)
+
+abbrev pub invariant-loop-k : goal.invariant-loop-k
+invariant-loop-k l = (l.k ≤ l.jobs) × (l.jobs ≤ max_jobs) × (first_refusal judge (l.k + 1) (drop l.k (take l.jobs l.runs)) ≡ first_refusal judge 1 (take l.jobs l.runs))
+
+abbrev pub decreases-loop-k : goal.decreases-loop-k
+decreases-loop-k l = l.jobs - l.k

@@ -1,0 +1,35 @@
+-- `check6` meets its contract: the answer from slot t on is the whole answer, and the counts are those of border t.
+use Prim.Native.Nat.{ℕ, ◌+◌, ◌-◌, ◌≤◌}
+use native.Mathlib.Omega.{arith}
+use mathlib.Core.Bool.{◌&&◌, ◌||◌, false≢true}
+use mathlib.Core.List.{List}
+use mathlib.Core.Path.{◌≡◌, refl, sym, ap, ◌∙◌}
+use lib.ListN.{length, take, drop, get_or}
+use borrow.Author.Rules.{rules}
+use borrow.Author.Tests.{not-true, not-false, lt-leb}
+use Rattle.words.specs.Words.{◌≤?◌, ◌<?◌, ◌=?◌}
+use Rattle.answers.specs.declared.Answer.{Answer}
+use Rattle.answers.specs.declared.Answer.TheVariants.{TableSlot}
+use Rattle.answers.specs.Answer.{accepted, first_refusal, ◌unless◌}
+use Rattle.answers.specs.AnswerLaws.{first_end_lem}
+use Rattle.plan.specs.declared.Plan.{Plan}
+use Rattle.plan.specs.Limits.{max_slots, max_jobs}
+use Rattle.plan.specs.Plan.{blank_job, counts_at}
+use Rattle.plan.specs.CountLaws.{counts_start, counts_on}
+use Rattle.well_formed.specs.WellFormed.{slot_holds, check6}
+use Rattle.well_formed.specs.RunWords.{no_runs, runs_from}
+use Rattle.well_formed.specs.RunLaws.{runs_on, runs_end}
+use Rattle.well_formed.proofs.Laws.{by_le}
+use Rattle.answers.specs.AnswerLaws.{rule_on, rule_found}
+use Rattle.well_formed.proofs.check6.Given as goal
+
+abbrev pub judge : Plan → ℕ → ℕ → Answer
+judge p t k = TableSlot t unless slot_holds p t k
+
+abbrev pub invariant-loop-t : goal.invariant-loop-t
+invariant-loop-t l =
+    (l.t ≤ l.slots) × (l.slots ≤ max_slots) × (l.counts ≡ counts_at l.p l.t) × (first_refusal (judge l.p) l.t (drop l.t (take l.slots l.p.table)) ≡ first_refusal (judge l.p) 0 (take l.slots l.p.table))
+    × (runs_from l.before l.runs (drop l.t (take l.slots l.p.table)) ≡ runs_from 0 no_runs (take l.slots l.p.table))
+
+abbrev pub decreases-loop-t : goal.decreases-loop-t
+decreases-loop-t l = l.slots - l.t
