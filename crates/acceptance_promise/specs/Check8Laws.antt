@@ -39,6 +39,7 @@ sum_total f d (x ∷ xs) = let r = sum_total f d xs in omega arith
 -- a HI job is among the HI jobs
 hi_member : {j : Job} (js : List Job) → Memᴰ j js → is_hi j ≡ true → Memᴰ j (hi_jobs js)
 unfolding hi_jobs
+hi_member {j = j} [] m h = elim m [ ]
 hi_member (i ∷ js) (Memᴰ.head e) h =
     let here : is_hi i ≡ true = rw e at h in
     rw here (Memᴰ.head e)
