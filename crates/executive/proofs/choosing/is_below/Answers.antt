@@ -7,15 +7,11 @@ use lib.Signed.{lt_z}
 use mir.Facts.{to_z-of_z}
 use mir.Syntax.{w32}
 use Rattle.words.specs.Words.{below0}
-use Rattle.executive.proofs.choosing.is_below.Statement.{statement}
-use Rattle.executive.proofs.choosing.is_below.Tie as tie
+use Rattle.executive.proofs.choosing.is_below.Goals as goal
 
 below : (z : ℤ) → lt_z z (pos 0) ≡ below0 z
 below (pos n) = le-ltb n 0 zero-le
 below (negsuc n) = refl
 
-returns : tie.Need-returns
+pub returns : goal.returns
 returns c = rw (to_z-of_z {w = w32} c.ranges.spare) (below c.args.spare)
-
-pub is-below-spec : {M : Type 1} → statement M
-is-below-spec = tie.close (tie.spec returns)
