@@ -2,13 +2,13 @@
 use Prim.Native.Nat.{ℕ, ◌-◌, ◌≤◌, ◌<◌}
 use Rattle.std.proofs.Math.Decide.{dec_le}
 use Rattle.std.proofs.Common.{arith, ◌∙◌}
-use Rattle.std.specs.Prelude.{◌≡◌, refl, ◌↔◌, Bool, false, ◌&&◌, ◌||◌, length}
+use Rattle.std.specs.Prelude.{◌≡◌, refl, ◌↔◌, Bool, false, ◌&&◌, ◌||◌, length, if◌then◌else◌}
 use Rattle.std.proofs.Math.Logic.{⊎_elim}
 use Rattle.std.proofs.Math.Bool.{true}
 use mathlib.Core.List.{List, [], ◌∷◌, map, Memᴰ}
 use Rattle.std.proofs.Math.ListN.{get_or}
 use borrow.Author.Tests.{leb-true, leb-false, le-leb, lt-leb}
-use Rattle.words.specs.Words.{if◌then◌else◌, ◌≤?◌, sum}
+use Rattle.words.specs.Words.{◌≤?◌, sum}
 use Rattle.words.specs.Cases.{by_test}
 use Rattle.answers.specs.declared.Answer.TheVariants.{Overfull}
 use Rattle.answers.specs.Answer.{accepted, ◌unless◌}
@@ -39,6 +39,7 @@ sum_total f d (x ∷ xs) = let r = sum_total f d xs in omega arith
 -- a HI job is among the HI jobs
 hi_member : {j : Job} (js : List Job) → Memᴰ j js → is_hi j ≡ true → Memᴰ j (hi_jobs js)
 unfolding hi_jobs
+hi_member {j = j} [] m h = elim m [ ]
 hi_member (i ∷ js) (Memᴰ.head e) h =
     let here : is_hi i ≡ true = rw e at h in
     rw here (Memᴰ.head e)

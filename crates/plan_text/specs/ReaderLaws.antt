@@ -19,7 +19,6 @@ use Rattle.plan_text.specs.declared.reader.LevelName.{LevelName}
 use Rattle.plan_text.specs.declared.reader.LevelName.TheVariants.{Is, Not}
 use Rattle.plan_text.specs.declared.reader.LevelAt.TheVariants as LevelAt
 use Rattle.plan_text.specs.declared.reader.JobAt.{JobAt}
-use Rattle.plan_text.specs.declared.reader.JobAt.TheVariants as JobAt
 
 -- ---- a level
 

@@ -73,6 +73,7 @@ struct Parts {
     line: u16,
 }
 
+#[tactic(auto, using(crate::specs::ReaderLaws::level_hi, crate::specs::ReaderLaws::level_lo, crate::specs::ReaderLaws::level_not))]
 fn level_in(s: &[u8]) -> LevelName
     ensures { result ≡ level_read (level_in s.now) }
 {
@@ -85,6 +86,7 @@ fn level_in(s: &[u8]) -> LevelName
     LevelName::Not
 }
 
+#[tactic(auto, using(crate::specs::ReaderLaws::level_there, crate::specs::ReaderLaws::level_refused))]
 fn level_field(text: &[u8], at: usize) -> LevelAt
     ensures { result ≡ level_at text.now at }
 {
@@ -124,6 +126,7 @@ fn hi_field(text: &[u8], at: usize) -> NumberAt
 }
 
 // The job whose first line is at `at` and has the number `line`.
+#[tactic(auto, using(crate::specs::ReaderLaws::job_bad_1, crate::specs::ReaderLaws::job_bad_2, crate::specs::ReaderLaws::job_bad_3, crate::specs::ReaderLaws::job_bad_4, crate::specs::ReaderLaws::job_bad_5, crate::specs::ReaderLaws::job_got))]
 fn read_job(text: &[u8], at: usize, line: u16) -> JobAt
     requires { line + 5 ≤ last_line }
     ensures { JobHere text.now at line result }
@@ -154,6 +157,7 @@ fn read_job(text: &[u8], at: usize, line: u16) -> JobAt
 }
 
 // The jobs, the first of whose lines is at `at` and has the number `line`.
+#[tactic(auto, using(lines::specs::ManyLaws::filling_at_starts, lines::specs::ManyLaws::filling_at_on, lines::specs::ManyLaws::filling_at_stops, lines::specs::ManyLaws::filling_at_ends, crate::specs::ReaderLaws::form_refuses, crate::specs::ReaderLaws::job_is, crate::specs::ReaderLaws::job_is_not))]
 fn read_jobs(text: &[u8], at: usize, count: usize, line: u16) -> JobsRead
     requires count_le_max_jobs { count ≤ max_jobs }
     requires count_bound { line + 5 * count ≤ last_line }
@@ -196,6 +200,7 @@ fn slot_field(text: &[u8], at: usize) -> NumberAt
 }
 
 // The slots, the first of whose lines is at `at` and has the number `line`, into the table, which is 0 on entry.
+#[tactic(auto, using(lines::specs::ManyLaws::filling_at_starts, lines::specs::ManyLaws::filling_at_on, lines::specs::ManyLaws::filling_at_stops, lines::specs::ManyLaws::filling_at_ends, crate::specs::ReaderLaws::form_refuses, crate::specs::ReaderLaws::line_each, lines::specs::ReadingLaws::number_got, lines::specs::ReadingLaws::number_bad))]
 fn read_slots(
     text: &[u8],
     at: usize,
@@ -246,6 +251,7 @@ fn no_parts(answer: Answer) -> Parts
 }
 
 // The lines of the jobs and of the slots, the first of which is at `at` and has the number `line`.
+#[tactic(auto, using(crate::specs::PrefixLaws::lines_no_jobs, crate::specs::PrefixLaws::lines_read))]
 fn read_lines(
     text: &[u8],
     at: usize,
@@ -293,6 +299,7 @@ fn jobs_field(text: &[u8], at: usize) -> NumberAt
 }
 
 // The lines of a plan, the first of which is at `at` and has the number `line`; the slots go into the table, which is 0 on entry.
+#[tactic(auto, using(crate::specs::PrefixLaws::no_line_one, crate::specs::PrefixLaws::over_slot_limit, crate::specs::PrefixLaws::line_one, crate::specs::PrefixLaws::slots_few, crate::specs::PrefixLaws::no_line_two, crate::specs::PrefixLaws::over_job_limit, crate::specs::PrefixLaws::line_two, crate::specs::PrefixLaws::jobs_few, crate::specs::PrefixLaws::lines_onward))]
 fn read_parts(text: &[u8], at: usize, line: u16, table: &mut [u16; plan::SLOTS]) -> Parts
     requires max_slots_bound { line + 2 + 5 * max_jobs + max_slots ≤ last_line }
     requires table_value { table.old ≡ replicate max_slots 0 }
@@ -336,6 +343,7 @@ fn has_numbers(line: u16) -> bool
 
 // The plan at a place of the text, which is the start of that line, whatever follows the plan. Every place and line is answered:
 // past the text's end the line is missing, and where its lines would pass the last number the plan is refused at its first.
+#[tactic(auto, using(crate::specs::PrefixLaws::numbers_fit_lem, crate::specs::PrefixLaws::from_late, crate::specs::PrefixLaws::from_refused, crate::specs::PrefixLaws::from_read))]
 pub fn plan_from(text: &[u8], at: usize, line: u16) -> PlanPrefix
     ensures { result ≡ plan_from text.now at line }
 {
@@ -363,6 +371,7 @@ pub fn plan_from(text: &[u8], at: usize, line: u16) -> PlanPrefix
 }
 
 // The plan at the start of the text, whatever follows it.
+#[tactic(auto, using(crate::specs::PrefixLaws::from_start))]
 pub fn plan_prefix(text: &[u8]) -> PlanPrefix
     ensures { result ≡ plan_prefix text.now }
 {
@@ -380,6 +389,7 @@ fn no_plan(answer: Answer) -> PlanRead
 }
 
 // The plan that the text is, with nothing after it.
+#[tactic(auto, using(crate::specs::PrefixLaws::only_refused, crate::specs::PrefixLaws::only_more, crate::specs::PrefixLaws::only_plan_lem))]
 pub fn read_plan(text: &[u8]) -> PlanRead
     ensures { result ≡ read_plan text.now }
 {

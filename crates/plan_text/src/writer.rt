@@ -18,6 +18,7 @@ use plan::{JOBS, Job, Level, Plan, SLOTS};
 const MOST: u16 = 9999;
 
 // 1 at the first number above 9999 of a job whose five lines start at `line`.
+#[tactic(auto, using(crate::specs::WriterLaws::release_high, crate::specs::WriterLaws::deadline_high, crate::specs::WriterLaws::lo_high, crate::specs::WriterLaws::hi_high, crate::specs::WriterLaws::none_high))]
 fn job_fits(line: u16, j: Job) -> Answer
     requires { line ≤ 1000 }
     ensures { result ≡ first_refusal four_digits line (numbers_in j) }
@@ -38,6 +39,7 @@ fn job_fits(line: u16, j: Job) -> Answer
 }
 
 // The same of the first n jobs; the first job's lines start at line 3.
+#[tactic(auto, using(answers::specs::AnswerLaws::passes, answers::specs::AnswerLaws::refuses, crate::specs::WriterLaws::jobs_from, crate::specs::WriterLaws::jobs_end))]
 fn jobs_fit(job: [Job; JOBS], n: usize) -> Answer
     requires { n ≤ max_jobs }
     ensures { result ≡ first_refusal four_digits 3 (flat_map numbers_in (take n job)) }
@@ -56,6 +58,7 @@ fn jobs_fit(job: [Job; JOBS], n: usize) -> Answer
 }
 
 // The same of the first n slots of the table, whose lines start at `line`.
+#[tactic(auto, using(answers::specs::AnswerLaws::first_end_lem, crate::specs::WriterLaws::slot_high, crate::specs::WriterLaws::slot_fits))]
 fn slots_fit(table: [u16; SLOTS], n: usize, line: u16) -> Answer
     requires n_le_max_slots { n ≤ max_slots }
     requires line_bound { line ≤ 1000 }
@@ -74,6 +77,7 @@ fn slots_fit(table: [u16; SLOTS], n: usize, line: u16) -> Answer
 }
 
 // 1: the first number of the plan above 9999, at its line.
+#[tactic(auto, using(answers::specs::AnswerLaws::passes, answers::specs::AnswerLaws::refuses, crate::specs::WriterLaws::numbers_parts))]
 fn numbers_fit(p: Plan) -> Answer
     requires slots_le_max_slots { p.slots ≤ max_slots }
     requires jobs_le_max_jobs { p.jobs ≤ max_jobs }
@@ -91,6 +95,7 @@ fn numbers_fit(p: Plan) -> Answer
 }
 
 // How many digits a number of the plan has: five at most.
+#[tactic(auto, using(crate::specs::WriterLaws::digits_five))]
 fn digit_count(n: u16) -> usize
     ensures value { result ≡ length (digits n) }
     ensures upper_bound { result ≤ 5 }
@@ -99,6 +104,7 @@ fn digit_count(n: u16) -> usize
 }
 
 // How long a job's five lines are: 36 bytes besides its digits.
+#[tactic(auto, using(crate::specs::WriterLaws::job_length))]
 fn job_len(j: Job) -> usize
     ensures value { result ≡ length (job_text j) }
     ensures upper_bound { result ≤ 56 }
@@ -107,6 +113,7 @@ fn job_len(j: Job) -> usize
 }
 
 // How long the lines of the first n jobs are.
+#[tactic(auto, using(lines::specs::WriteManyLaws::length_more))]
 fn jobs_len(job: [Job; JOBS], n: usize) -> usize
     requires { n ≤ max_jobs }
     ensures value { result ≡ length (flat_map job_text (take n job)) }
@@ -122,6 +129,7 @@ fn jobs_len(job: [Job; JOBS], n: usize) -> usize
 }
 
 // How long the lines of the first n slots are: 6 bytes each besides the digits.
+#[tactic(auto, using(lines::specs::WriteManyLaws::length_more, crate::specs::WriterLaws::slot_length))]
 fn slots_len(table: [u16; SLOTS], n: usize) -> usize
     requires { n ≤ max_slots }
     ensures value { result ≡ length (flat_map (number_line "slot=") (take n table)) }
@@ -137,6 +145,7 @@ fn slots_len(table: [u16; SLOTS], n: usize) -> usize
 }
 
 // How long the text of a plan within its limits is.
+#[tactic(auto, using(crate::specs::WriterLaws::text_length))]
 fn text_len(p: Plan) -> usize
     requires slots_le_max_slots { p.slots ≤ max_slots }
     requires jobs_le_max_jobs { p.jobs ≤ max_jobs }
@@ -170,6 +179,7 @@ fn put_slot(out: &mut [u8], at: usize, k: u16) -> usize
 }
 
 // A job's five lines, which have room.
+#[tactic(auto, using(crate::specs::WriterLaws::job_pieces))]
 fn put_job(out: &mut [u8], at: usize, j: Job) -> usize
     requires { at + length (job_text j) ≤ length out.old }
     ensures value { result ≡ place_after at (job_text j) out.old }
@@ -184,6 +194,7 @@ fn put_job(out: &mut [u8], at: usize, j: Job) -> usize
 }
 
 // The lines of the first n jobs, which have room.
+#[tactic(auto, using(lines::specs::WriteManyLaws::wrote_none, lines::specs::WriteManyLaws::wrote_room, lines::specs::WriteManyLaws::wrote_more, lines::specs::WriteManyLaws::wrote_all))]
 fn put_jobs(out: &mut [u8], at: usize, job: [Job; JOBS], n: usize) -> usize
     requires n_le_max_jobs { n ≤ max_jobs }
     requires job_in_bounds { at + length (flat_map job_text (take n job)) ≤ length out.old }
@@ -200,6 +211,7 @@ fn put_jobs(out: &mut [u8], at: usize, job: [Job; JOBS], n: usize) -> usize
 }
 
 // The lines of the first n slots, which have room.
+#[tactic(auto, using(lines::specs::WriteManyLaws::wrote_none, lines::specs::WriteManyLaws::wrote_more, lines::specs::WriteManyLaws::wrote_all))]
 fn put_slots(out: &mut [u8], at: usize, table: [u16; SLOTS], n: usize) -> usize
     requires n_le_max_slots { n ≤ max_slots }
     requires table_in_bounds { at + length (flat_map (number_line "slot=") (take n table)) ≤ length out.old }
@@ -216,6 +228,7 @@ fn put_slots(out: &mut [u8], at: usize, table: [u16; SLOTS], n: usize) -> usize
 }
 
 // The whole text from the start of the output, which has room for it.
+#[tactic(auto, using(crate::specs::WriterLaws::jobs_room, crate::specs::WriterLaws::slots_room, crate::specs::WriterLaws::plan_pieces))]
 fn put_plan(p: Plan, out: &mut [u8]) -> usize
     requires slots_le_max_slots { p.slots ≤ max_slots }
     requires jobs_le_max_jobs { p.jobs ≤ max_jobs }
@@ -234,6 +247,7 @@ fn put_plan(p: Plan, out: &mut [u8]) -> usize
 }
 
 // The text of a plan. Checked are 2, 3, 1 and 14; a refusal leaves the output as it was, and so are the bytes past the text.
+#[tactic(auto, using(answers::specs::AnswerLaws::passed, answers::specs::AnswerLaws::failed, crate::specs::WriterLaws::slots_within, crate::specs::WriterLaws::jobs_within, crate::specs::WriterLaws::ends_2, crate::specs::WriterLaws::ends_3, crate::specs::WriterLaws::ends_1, crate::specs::WriterLaws::ends_14, crate::specs::WriterLaws::ends_written), unfolding(plan::specs::Rules::check2, plan::specs::Rules::check3))]
 pub fn write_plan(p: Plan, out: &mut [u8]) -> Answer
     ensures value { result ≡ write_answer p (length out.old) }
     ensures out_after { out.new ≡ write_out p out.old }

@@ -1,0 +1,6 @@
+-- `run::fresh_console` meets its promise.
+use borrow.Author.Rules.{rules}
+use Rattle.console.proofs.run.fresh_console.Goals as goal
+
+pub returns : goal.returns
+returns c = rw c.blank_run-run.ensures

@@ -1,0 +1,14 @@
+-- `chosen` meets its contract, phase by phase.
+use mathlib.Core.Path.{sym, ap, ◌∙◌}
+use Rattle.executive.specs.declared.Phase.{Phase}
+use Rattle.executive.specs.Choice.{chosen_in, chosen}
+use borrow.Author.Rules.{rules}
+use Rattle.executive.proofs.Run.chosen.Goals as goal
+
+pub returns-in-T : goal.returns-in-T
+unfolding chosen
+returns-in-T c = c.chosen_t.ensures ∙ sym (ap (λ (h : Phase). chosen_in h c.args.self) c.in-T.is)
+
+pub returns-in-H : goal.returns-in-H
+unfolding chosen
+returns-in-H c = c.chosen_h.ensures ∙ sym (ap (λ (h : Phase). chosen_in h c.args.self) c.in-H.is)

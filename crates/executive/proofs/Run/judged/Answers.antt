@@ -1,0 +1,8 @@
+-- `judged` meets its contract, by that of the phase after.
+use Rattle.executive.specs.Step.{judged}
+use borrow.Author.Rules.{rules}
+use Rattle.executive.proofs.Run.judged.Goals as goal
+
+pub returns : goal.returns
+unfolding judged
+returns c = rw c.phase_after-after.ensures

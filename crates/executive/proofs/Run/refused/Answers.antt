@@ -1,0 +1,6 @@
+-- `refused` meets its contract: no choice, and the same run.
+use borrow.Author.Rules.{rules}
+use Rattle.executive.proofs.Run.refused.Goals as goal
+
+pub returns : goal.returns
+returns c = rw c.no_choice-choice.ensures

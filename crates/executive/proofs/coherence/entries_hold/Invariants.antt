@@ -1,0 +1,21 @@
+-- `entries_hold` meets its contract. The invariant: the test from here on is the whole test.
+use Prim.Native.Nat.{◌≤◌, ◌-◌}
+use native.Mathlib.Omega.{arith}
+use mathlib.Core.List.{zip_with}
+use mathlib.Core.Path.{◌≡◌, refl, sym, ◌∙◌}
+use borrow.Author.Tests.{not-true, not-false}
+use lib.ListN.{length, take, drop}
+use Rattle.words.specs.Words.{every}
+use Rattle.words.specs.ListLaws.{long}
+use Rattle.plan.specs.Limits.{max_jobs}
+use Rattle.entries.specs.Entry.{entry_holds}
+use Rattle.executive.specs.Coherent.{all_hold}
+use Rattle.words.specs.ZipLaws.{every_on, every_not, every_end}
+use borrow.Author.Rules.{rules}
+use Rattle.executive.proofs.coherence.entries_hold.Given as goal
+
+abbrev pub invariant-loop-i : goal.invariant-loop-i
+invariant-loop-i l = (l.i ≤ l.n) × (every (drop l.i (zip_with (entry_holds l.t) (take l.n l.job) l.entry)) ≡ all_hold l.t (take l.n l.job) l.entry)
+
+abbrev pub decreases-loop-i : goal.decreases-loop-i
+decreases-loop-i l = l.n - l.i

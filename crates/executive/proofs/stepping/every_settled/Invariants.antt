@@ -1,0 +1,18 @@
+-- `every_settled` meets its contract. The invariant: the test from here on is the whole test.
+use Prim.Native.Nat.{◌≤◌, ◌-◌}
+use native.Mathlib.Omega.{arith}
+use mathlib.Core.Path.{◌≡◌, refl, sym, ◌∙◌}
+use borrow.Author.Tests.{not-true, not-false}
+use lib.ListN.{length, take, drop}
+use Rattle.words.specs.ListLaws.{long}
+use Rattle.plan.specs.Limits.{max_jobs}
+use Rattle.executive.specs.Step.{every_settled}
+use Rattle.executive.specs.StepLaws.{settled_on, settled_not, settled_end}
+use borrow.Author.Rules.{rules}
+use Rattle.executive.proofs.stepping.every_settled.Given as goal
+
+abbrev pub invariant-loop-i : goal.invariant-loop-i
+invariant-loop-i l = (l.i ≤ l.n) × (every_settled (drop l.i (take l.n l.job)) (drop l.i l.entry) (drop l.i l.counts) ≡ every_settled (take l.n l.job) l.entry l.counts)
+
+abbrev pub decreases-loop-i : goal.decreases-loop-i
+decreases-loop-i l = l.n - l.i
