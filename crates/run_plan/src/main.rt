@@ -182,7 +182,13 @@ fn main(rt: HostRuntime) {
         reads -= 1;
         let c = going.console;
         let next = turn(
-            &rt, &mut input, &mut output, c, &mut held, going.n, &mut out,
+            &rt,
+            &mut input,
+            &mut output,
+            c,
+            &mut held,
+            going.n,
+            &mut out,
         );
         going = next;
     }

@@ -1,5 +1,5 @@
 -- What the programs' reading and writing promise: which bytes stay, how many came or went, and which failures pass.
--- Which bytes the C library reads and writes no promise can say.
+-- Which bytes the system gives and takes no promise can say.
 use Rattle.std.specs.Prelude.{ℕ, ◌+◌, ◌≤◌, ◌<◌, ◌≡◌, List, length, take, ℤ, Option, if◌then◌else◌}
 use Rattle.std.specs.Int.{w32}
 use Rattle.std.specs.Option.{option_map_or}

@@ -1,6 +1,5 @@
 -- One event brings the console nearer, and once it waits it is at rest.
-use Rattle.std.proofs.Common.{arith, rules, refl, ◌∙◌, [], take}
-use borrow.Author.Tests.{not-true}
+use Rattle.std.proofs.Common.{rules, refl, ◌∙◌, [], take}
 use Rattle.console.specs.ProgressLaws.{at_rest}
 use Rattle.run_plan.specs.LoopLaws.{nearer, nears, near_rest}
 use Rattle.run_plan.proofs.settled.Goals as goal
