@@ -2,8 +2,8 @@
 use answers::Answer;
 use std::io;
 
-pub(crate) fn words(rt: &impl Print, s: &str) -> io::Result<()> {
-    rt.print(s)
+pub(crate) fn words(rt: &impl Print, s: &[u8]) -> io::Result<()> {
+    rt.write_all(s)
 }
 
 pub(crate) fn number(rt: &impl Print, n: usize) -> io::Result<()> {
@@ -11,11 +11,11 @@ pub(crate) fn number(rt: &impl Print, n: usize) -> io::Result<()> {
 }
 
 // `name: number,place`
-pub(crate) fn answer(rt: &impl Print, name: &str, a: Answer) -> io::Result<()> {
+pub(crate) fn answer(rt: &impl Print, name: &[u8], a: Answer) -> io::Result<()> {
     words(rt, name)?;
-    words(rt, ": ")?;
+    words(rt, b": ")?;
     number(rt, answers::number_of(a) as usize)?;
-    words(rt, ",")?;
+    words(rt, b",")?;
     number(rt, answers::first_place(a))?;
-    words(rt, "\n")
+    words(rt, b"\n")
 }

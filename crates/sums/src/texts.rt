@@ -8,7 +8,7 @@ use std::io::Read;
 use std::rt::Files;
 
 // How the text is answered.
-fn text(rt: &impl Print, name: &str, s: &[u8]) -> io::Result<()> {
+fn text(rt: &impl Print, name: &[u8], s: &[u8]) -> io::Result<()> {
     let read = plan_text::reader::read_plan(s);
     let answer = read.answer;
     print::answer(rt, name, answer)
@@ -34,72 +34,72 @@ fn file(rt: &(impl Files + Print), path: &str) -> io::Result<()> {
     let mut input = File::open(rt, path)?;
     let mut buffer = [0u8; 65536];
     let n = read_full(&mut input, &mut buffer)?;
-    text(rt, path, &buffer[..n])
+    text(rt, path.as_bytes(), &buffer[..n])
 }
 
 pub(crate) fn limits(rt: &(impl Files + Print)) -> io::Result<()> {
-    text(rt, "empty text", b"")?;
-    text(rt, "slots=08", b"slots=08\n")?;
-    text(rt, "slots=0", b"slots=0\njobs=1\n")?;
-    text(rt, "slots=513", b"slots=513\n")?;
-    text(rt, "slots=513, no LF", b"slots=513")?;
-    text(rt, "slots=513, then rubbish", b"slots=513\nrubbish")?;
-    text(rt, "jobs=0", b"slots=4\njobs=0\n")?;
-    text(rt, "jobs=33", b"slots=4\njobs=33\n")?;
-    text(rt, "jobs=33, then rubbish", b"slots=4\njobs=33\nrubbish\n")?;
+    text(rt, b"empty text", b"")?;
+    text(rt, b"slots=08", b"slots=08\n")?;
+    text(rt, b"slots=0", b"slots=0\njobs=1\n")?;
+    text(rt, b"slots=513", b"slots=513\n")?;
+    text(rt, b"slots=513, no LF", b"slots=513")?;
+    text(rt, b"slots=513, then rubbish", b"slots=513\nrubbish")?;
+    text(rt, b"jobs=0", b"slots=4\njobs=0\n")?;
+    text(rt, b"jobs=33", b"slots=4\njobs=33\n")?;
+    text(rt, b"jobs=33, then rubbish", b"slots=4\njobs=33\nrubbish\n")?;
     file(rt, "largest.plan")?;
     file(rt, "largest_and_more.plan")?;
     file(rt, "digits.plan")
 }
 
 pub(crate) fn bad_numbers(rt: &impl Print) -> io::Result<()> {
-    text(rt, "five digits", b"slots=00008\n")?;
-    text(rt, "five digits, no zero", b"slots=10000\n")?;
-    text(rt, "plus sign", b"slots=+8\n")?;
-    text(rt, "minus sign", b"slots=-8\n")?;
-    text(rt, "blank before", b"slots= 8\n")?;
-    text(rt, "blank after", b"slots=8 \n")?;
-    text(rt, "empty value", b"slots=\n")?;
-    text(rt, "letter", b"slots=8a\n")?;
-    text(rt, "zero twice", b"slots=4\njobs=00\n")
+    text(rt, b"five digits", b"slots=00008\n")?;
+    text(rt, b"five digits, no zero", b"slots=10000\n")?;
+    text(rt, b"plus sign", b"slots=+8\n")?;
+    text(rt, b"minus sign", b"slots=-8\n")?;
+    text(rt, b"blank before", b"slots= 8\n")?;
+    text(rt, b"blank after", b"slots=8 \n")?;
+    text(rt, b"empty value", b"slots=\n")?;
+    text(rt, b"letter", b"slots=8a\n")?;
+    text(rt, b"zero twice", b"slots=4\njobs=00\n")
 }
 
 pub(crate) fn bad_lines(rt: &impl Print) -> io::Result<()> {
-    text(rt, "CRLF", b"slots=8\r\njobs=2\r\n")?;
-    text(rt, "NUL", b"slots=8\n\0jobs=2\n")?;
-    text(rt, "wrong key", b"slots=8\njob=2\n")?;
-    text(rt, "repeated key", b"slots=8\nslots=8\n")?;
-    text(rt, "key in capitals", b"SLOTS=8\n")?;
-    text(rt, "no equals sign", b"slots8\n")?;
-    text(rt, "empty line first", b"\nslots=8\n")?;
-    text(rt, "empty line between", b"slots=8\n\njobs=2\n")?;
-    text(rt, "level in lower case", b"slots=1\njobs=1\nlevel=hi\n")?;
-    text(rt, "level of one letter", b"slots=1\njobs=1\nlevel=H\n")?;
+    text(rt, b"CRLF", b"slots=8\r\njobs=2\r\n")?;
+    text(rt, b"NUL", b"slots=8\n\0jobs=2\n")?;
+    text(rt, b"wrong key", b"slots=8\njob=2\n")?;
+    text(rt, b"repeated key", b"slots=8\nslots=8\n")?;
+    text(rt, b"key in capitals", b"SLOTS=8\n")?;
+    text(rt, b"no equals sign", b"slots8\n")?;
+    text(rt, b"empty line first", b"\nslots=8\n")?;
+    text(rt, b"empty line between", b"slots=8\n\njobs=2\n")?;
+    text(rt, b"level in lower case", b"slots=1\njobs=1\nlevel=hi\n")?;
+    text(rt, b"level of one letter", b"slots=1\njobs=1\nlevel=H\n")?;
     text(
         rt,
-        "a line missing",
+        b"a line missing",
         b"slots=1\njobs=1\nlevel=HI\nrelease=0\nlo=1\n",
     )?;
     text(
         rt,
-        "smallest plan",
+        b"smallest plan",
         b"slots=1\njobs=1\nlevel=HI\nrelease=0\ndeadline=1\nlo=1\nhi=1\nslot=1\n",
     )?;
     text(
         rt,
-        "one byte more",
+        b"one byte more",
         b"slots=1\njobs=1\nlevel=HI\nrelease=0\ndeadline=1\nlo=1\nhi=1\nslot=1\n\n",
     )?;
     text(
         rt,
-        "one slot more",
+        b"one slot more",
         b"slots=1\njobs=1\nlevel=HI\nrelease=0\ndeadline=1\nlo=1\nhi=1\nslot=1\nslot=0\n",
     )
 }
 
 // A text cut short is refused 1 at the line that is missing or unfinished.
 fn cut(rt: &impl Print, whole: &[u8], k: usize) -> io::Result<()> {
-    text(rt, "cut", lines::reading::value(whole, 0, k))
+    text(rt, b"cut", lines::reading::value(whole, 0, k))
 }
 
 fn cuts(rt: &impl Print, whole: &[u8]) -> io::Result<()> {
