@@ -1,7 +1,7 @@
 -- Words of the code of check 9 and of the analysis: the work of one job and of all, and its sums by home. The rules are in Acceptance and Analysis.
-use Rattle.std.specs.Prelude.{ℕ, Bool, true}
+use Rattle.std.specs.Prelude.{ℕ, Bool, true, if◌then◌else◌}
 use mathlib.Core.List.{List, zip_with}
-use Rattle.words.specs.Words.{if◌then◌else◌, ◌<?◌}
+use Rattle.words.specs.Words.{◌<?◌}
 use Rattle.plan.specs.declared.Job.{Job}
 use Rattle.spares.specs.Spares.{hi_left, lo_left}
 use Rattle.spares.specs.Debt.{sums_by_home}

@@ -1,11 +1,11 @@
 -- The rows of a table are its longest ones; check 17 by slots: a job has at most m runs exactly when no m + 1 slots of its own are set apart.
 use Prim.Native.Nat.{ℕ, zero, suc, ◌+◌, ◌-◌, ◌≤◌, ◌<◌}
 use Rattle.std.proofs.Common.{arith, sym, ap, ◌∙◌, length-take-le}
-use Rattle.std.specs.Prelude.{◌≡◌, refl, ◌↔◌, Bool, false, ◌&&◌, length, get_or, replicate}
+use Rattle.std.specs.Prelude.{◌≡◌, refl, ◌↔◌, Bool, false, ◌&&◌, length, get_or, replicate, if◌then◌else◌}
 use Rattle.std.proofs.Math.Bool.{true, not}
 use mathlib.Core.List.{List, [], ◌∷◌, map, flat_map}
 use borrow.Author.Tests.{eq-eqb, ne_eqb, eqb-true, lt-ltb, le-ltb, le-leb, leb-true, leb-false}
-use Rattle.words.specs.Words.{if◌then◌else◌, ◌≤?◌, ◌=?◌, ◌<?◌}
+use Rattle.words.specs.Words.{◌≤?◌, ◌=?◌, ◌<?◌}
 use Rattle.words.specs.Cases.{never, both_hold, by_test, by_less, by_equal}
 use Rattle.answers.specs.declared.Answer.{Answer}
 use Rattle.answers.specs.declared.Answer.TheVariants.{Chopped}

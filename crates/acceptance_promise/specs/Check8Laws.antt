@@ -2,13 +2,13 @@
 use Prim.Native.Nat.{ℕ, ◌-◌, ◌≤◌, ◌<◌}
 use Rattle.std.proofs.Math.Decide.{dec_le}
 use Rattle.std.proofs.Common.{arith, ◌∙◌}
-use Rattle.std.specs.Prelude.{◌≡◌, refl, ◌↔◌, Bool, false, ◌&&◌, ◌||◌, length}
+use Rattle.std.specs.Prelude.{◌≡◌, refl, ◌↔◌, Bool, false, ◌&&◌, ◌||◌, length, if◌then◌else◌}
 use Rattle.std.proofs.Math.Logic.{⊎_elim}
 use Rattle.std.proofs.Math.Bool.{true}
 use mathlib.Core.List.{List, [], ◌∷◌, map, Memᴰ}
 use Rattle.std.proofs.Math.ListN.{get_or}
 use borrow.Author.Tests.{leb-true, leb-false, le-leb, lt-leb}
-use Rattle.words.specs.Words.{if◌then◌else◌, ◌≤?◌, sum}
+use Rattle.words.specs.Words.{◌≤?◌, sum}
 use Rattle.words.specs.Cases.{by_test}
 use Rattle.answers.specs.declared.Answer.TheVariants.{Overfull}
 use Rattle.answers.specs.Answer.{accepted, ◌unless◌}

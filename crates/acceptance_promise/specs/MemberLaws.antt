@@ -1,9 +1,9 @@
 -- Members of lists: through rising order, and along a list of answers. Nothing here is of the trade.
-use Rattle.std.specs.Prelude.{ℕ, suc, ◌<◌, ◌≡◌, refl, true}
+use Rattle.std.specs.Prelude.{ℕ, suc, ◌<◌, ◌≡◌, refl, true, if◌then◌else◌}
 use Rattle.std.proofs.Math.Decide.{dec_lt, ℕ_discrete}
 use Rattle.std.proofs.Common.{arith, lt-ltb, le-ltb, eq-eqb, ne_eqb}
 use mathlib.Core.List.{List, [], ◌∷◌, Memᴰ}
-use Rattle.words.specs.Words.{if◌then◌else◌, ◌<?◌, ◌=?◌}
+use Rattle.words.specs.Words.{◌<?◌, ◌=?◌}
 use Rattle.answers.specs.declared.Answer.{Answer}
 use Rattle.answers.specs.Answer.{accepted, first_refusal}
 use Rattle.intervals.specs.Intervals.{insert, rising}

@@ -1,8 +1,8 @@
 -- The answers: the number of each, its place or places, and how answers are put in order.
-use Rattle.std.specs.Prelude.{ℕ, suc, Bool, List, [], ◌∷◌, get_or}
+use Rattle.std.specs.Prelude.{ℕ, suc, Bool, List, [], ◌∷◌, get_or, if◌then◌else◌}
 use Rattle.answers.specs.declared.Answer.{Answer}
 use Rattle.answers.specs.declared.Answer.TheVariants.{Accepted, Written, Form, SlotLimit, JobLimit, Window, Budget, TableSlot, TableCount, Overfull, Overdrawn, Incoherent, Over, OtherSlot, WrongKind, NoRoom, Chopped}
-use Rattle.words.specs.Words.{if◌then◌else◌, ◌=?◌}
+use Rattle.words.specs.Words.{◌=?◌}
 
 -- the table's column "No."
 abbrev pub number_of : Answer → ℕ

@@ -1,8 +1,7 @@
 -- The check program: all that it reads to all that it prints.
-use Rattle.std.specs.Prelude.{ℕ, List, [], ◌∷◌, ◌++◌, ℤ, take}
+use Rattle.std.specs.Prelude.{ℕ, List, [], ◌∷◌, ◌++◌, ℤ, take, if◌then◌else◌}
 use Rattle.intervals.specs.declared.Interval.{Interval}
 use Rattle.acceptance.specs.declared.Analysis.{Analysis}
-use Rattle.words.specs.Words.{if◌then◌else◌}
 use Rattle.answers.specs.Answer.{accepted}
 use Rattle.acceptance.specs.Analysis.{analysis}
 use Rattle.lines.specs.Lines.{digits, line}

@@ -1,10 +1,10 @@
 -- Lines one after the other: the lines of one more interval or job, and the rooms of whole outputs.
-use Rattle.std.specs.Prelude.{ℕ, zero, suc, ◌+◌, ◌*◌, ◌≤◌, ◌<◌, min, ◌≡◌, refl, List, [], ◌∷◌, ◌++◌, ℤ, pos, get_or, take}
+use Rattle.std.specs.Prelude.{ℕ, zero, suc, ◌+◌, ◌*◌, ◌≤◌, ◌<◌, min, ◌≡◌, refl, List, [], ◌∷◌, ◌++◌, ℤ, pos, get_or, take, if◌then◌else◌}
 use Rattle.std.proofs.Common.{add-one, le_of_suc-le-suc, arith, sym, ap, ◌∙◌, append-nil, append_assoc, take_all, le-leb}
 use Rattle.std.proofs.Math.Bool.{true, false}
 use Rattle.std.proofs.Math.ListN.{length}
 use Rattle.std.proofs.lemmas.Bool.{lt-leb}
-use Rattle.words.specs.Words.{if◌then◌else◌, ◌≤?◌}
+use Rattle.words.specs.Words.{◌≤?◌}
 use Rattle.words.specs.Cases.{by_less}
 use Rattle.lines.specs.Lines.{bytes, digits, digits_in, line}
 use Rattle.lines.specs.Writing.{put}

@@ -1,6 +1,6 @@
 -- What the functions for a host program answer: each starts from a text and keeps nothing between calls.
-use Rattle.std.specs.Prelude.{ℕ, List, [], ◌∷◌, get_or}
-use Rattle.words.specs.Words.{if◌then◌else◌, ◌=?◌}
+use Rattle.std.specs.Prelude.{ℕ, List, [], ◌∷◌, get_or, if◌then◌else◌}
+use Rattle.words.specs.Words.{◌=?◌}
 use Rattle.answers.specs.declared.Answer.{Answer}
 use Rattle.answers.specs.declared.Answer.TheVariants.{Accepted}
 use Rattle.answers.specs.Answer.{places_of, accepted, ◌and_then◌}

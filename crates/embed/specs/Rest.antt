@@ -1,6 +1,6 @@
 -- What the run program has still to print, with the console at some place of a whole text. The program's whole output is in console.
-use Rattle.std.specs.Prelude.{ℕ, ◌+◌, ◌≤◌, ◌≡◌, List, ◌++◌, length, drop}
-use Rattle.words.specs.Words.{if◌then◌else◌, ◌≤?◌}
+use Rattle.std.specs.Prelude.{ℕ, ◌+◌, ◌≤◌, ◌≡◌, List, ◌++◌, length, drop, if◌then◌else◌}
+use Rattle.words.specs.Words.{◌≤?◌}
 use Rattle.lines.specs.Writing.{put, put_fit}
 use Rattle.console.specs.declared.run.Console.{Console}
 use Rattle.console.specs.Run.{run_output}

@@ -1,5 +1,5 @@
-// The product for a host program in C or Rust: each function starts from a text and keeps nothing between calls.
-// include/coater.h declares them.
+// The product for a host program: each function starts from a text and keeps nothing between calls.
+// embed_c exports them to C under the same names.
 #![tactic(auto)]
 
 ghost use Rattle.std.specs.Prelude.{◌≡◌, length};
@@ -29,8 +29,7 @@ fn told(answer: Answer, places: &mut [usize; 2]) -> u16
 }
 
 // The reader's answer: 0, 1, 2 or 3, and its places.
-#[unsafe(no_mangle)]
-pub extern "C" fn embed_read(text: &[u8], places: &mut [usize; 2]) -> u16
+pub fn embed_read(text: &[u8], places: &mut [usize; 2]) -> u16
     ensures value { result ≡ number_of (read_plan text.now).answer }
     ensures places_after { places.new ≡ both_places (read_plan text.now).answer }
 {
@@ -50,8 +49,7 @@ fn bytes_written(answer: Answer) -> usize
 
 // Reads a plan and writes it at the start of `out`: the bytes written. A refused text has the blank plan, which the
 // writer refuses; a refusal answers 0 and leaves the output as it was.
-#[unsafe(no_mangle)]
-pub extern "C" fn embed_write(text: &[u8], out: &mut [u8]) -> usize
+pub fn embed_write(text: &[u8], out: &mut [u8]) -> usize
     ensures value { result ≡ bytes_written (write_answer (read_plan text.now).plan (length out.old)) }
     ensures out_after { out.new ≡ write_out (read_plan text.now).plan out.old }
 {
@@ -75,8 +73,7 @@ fn analysed(text: &[u8]) -> Answer
 }
 
 // Reads a plan and analyses it: the first refusal's number and places, 0 where both accept.
-#[unsafe(no_mangle)]
-pub extern "C" fn embed_analyse(text: &[u8], places: &mut [usize; 2]) -> u16
+pub fn embed_analyse(text: &[u8], places: &mut [usize; 2]) -> u16
     ensures value { result ≡ number_of (analysed text.now) }
     ensures places_after { places.new ≡ both_places (analysed text.now) }
 {
@@ -136,8 +133,7 @@ fn walked(text: &[u8], kinds: &[u8]) -> Answer
 }
 
 // Reads a plan, starts it, and reports once for each kind, for slot t: the first refusal's number and places, else 0.
-#[unsafe(no_mangle)]
-pub extern "C" fn embed_walk(text: &[u8], kinds: &[u8], places: &mut [usize; 2]) -> u16
+pub fn embed_walk(text: &[u8], kinds: &[u8], places: &mut [usize; 2]) -> u16
     ensures value { result ≡ number_of (walked text.now kinds.now) }
     ensures places_after { places.new ≡ both_places (walked text.now kinds.now) }
 {
@@ -146,8 +142,7 @@ pub extern "C" fn embed_walk(text: &[u8], kinds: &[u8], places: &mut [usize; 2])
 
 // The check program's whole output for this input, at the start of `out`: its length. An output with less than
 // console::check::CHECK_ROOM is left as it was, and the answer is 0.
-#[unsafe(no_mangle)]
-pub extern "C" fn embed_check(text: &[u8], out: &mut [u8]) -> usize
+pub fn embed_check(text: &[u8], out: &mut [u8]) -> usize
     ensures value { result ≡ check_length text.now out.old }
     ensures out_after { out.new ≡ check_written text.now out.old }
 {
@@ -156,8 +151,7 @@ pub extern "C" fn embed_check(text: &[u8], out: &mut [u8]) -> usize
 
 // The run program's whole output for this input, at the start of `out`: its length. An output that it does not fit is
 // left as it was, and the answer is 0.
-#[unsafe(no_mangle)]
-pub extern "C" fn embed_run(text: &[u8], out: &mut [u8]) -> usize
+pub fn embed_run(text: &[u8], out: &mut [u8]) -> usize
     ensures value { result ≡ place_after 0 (run_output text.now) out.old }
     ensures out_after { out.new ≡ put_fit 0 (run_output text.now) out.old }
 {

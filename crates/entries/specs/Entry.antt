@@ -1,6 +1,6 @@
 -- One job's entry: whether it is live, what a report makes of it, when it expires, and what the tests of a run ask of it.
-use Rattle.std.specs.Prelude.{ℕ, ◌+◌, Bool, true, false, not, ◌&&◌, ◌||◌}
-use Rattle.words.specs.Words.{if◌then◌else◌, ◌≤?◌, ◌<?◌, ◌=?◌}
+use Rattle.std.specs.Prelude.{ℕ, ◌+◌, Bool, true, false, not, ◌&&◌, ◌||◌, if◌then◌else◌}
+use Rattle.words.specs.Words.{◌≤?◌, ◌<?◌, ◌=?◌}
 use Rattle.plan.specs.declared.Job.{Job}
 use Rattle.plan.specs.Plan.{is_hi}
 use Rattle.entries.specs.declared.Standing.{Standing}

@@ -1,13 +1,13 @@
 -- Acceptance gives the order: at the first overrun what the HI jobs still need overfills no window,
 -- so the theory of windows lays out the coming slots, the earliest deadline first.
-use Rattle.std.specs.Prelude.{ℕ, zero, suc, ◌+◌, ◌-◌, ◌≤◌, ◌<◌, max, ◌≡◌, ◌⊎◌, Bool, List, get_or}
+use Rattle.std.specs.Prelude.{ℕ, zero, suc, ◌+◌, ◌-◌, ◌≤◌, ◌<◌, max, ◌≡◌, ◌⊎◌, Bool, List, get_or, if◌then◌else◌}
 use Rattle.std.proofs.Common.{zero-le, add-one, arith, sym, ◌∙◌, lt-ltb, le-ltb}
 use Rattle.std.proofs.Math.Decide.{dec_le, dec_lt}
 use Rattle.std.proofs.Math.Path.{refl}
 use Rattle.std.proofs.Math.Logic.{inl, inr, ⊎_elim}
 use Rattle.std.proofs.Math.Bool.{true, false}
 use Rattle.std.proofs.Math.ListN.{get_or-eq_default}
-use Rattle.words.specs.Words.{if◌then◌else◌, ◌<?◌}
+use Rattle.words.specs.Words.{◌<?◌}
 use Rattle.windows.specs.SumLaws.{same_yes, same_no}
 use Rattle.windows.specs.Windows.{InTime, NoMore}
 use Rattle.windows.specs.Orders.{given, Order}

@@ -1,12 +1,12 @@
 -- A refusal shows needs that are hopeless: hi for the HI jobs that are due by e and have a table slot to come at t, lo for all others.
 -- No overrun comes up to t, one comes later, and any order that continues the table run puts more than e - t slots between t and e.
-use Rattle.std.specs.Prelude.{ℕ, zero, suc, ◌-◌, ◌≤◌, ◌<◌, ◌≡◌, ◌⊎◌, Bool, false, ◌&&◌, List, get_or}
+use Rattle.std.specs.Prelude.{ℕ, zero, suc, ◌-◌, ◌≤◌, ◌<◌, ◌≡◌, ◌⊎◌, Bool, false, ◌&&◌, List, get_or, if◌then◌else◌}
 use Rattle.std.proofs.Common.{zero-le, arith, sym, ◌∙◌, inl, inr, ⊎_elim, le-leb, lt-ltb, le-ltb}
 use Rattle.std.proofs.Math.Decide.{dec_le}
 use Rattle.std.proofs.Math.Path.{refl}
 use Rattle.std.proofs.Math.Bool.{true}
 use Rattle.std.proofs.lemmas.Bool.{lt-leb}
-use Rattle.words.specs.Words.{if◌then◌else◌, ◌≤?◌, ◌<?◌}
+use Rattle.words.specs.Words.{◌≤?◌, ◌<?◌}
 use Rattle.windows.specs.SumLaws.{total_mono, gate_open, gate_shut, gate_none}
 use Rattle.windows.specs.Windows.{due_at, due_by}
 use Rattle.windows.specs.Orders.{given}

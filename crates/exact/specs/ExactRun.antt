@@ -3,10 +3,10 @@
 use Prim.Native.Nat.{ℕ, zero, suc, ◌+◌, ◌-◌, ◌≤◌, ◌<◌, min, zero-le}
 use Rattle.std.proofs.Math.Decide.{dec_le, ℕ_discrete}
 use Rattle.std.proofs.Common.{not-suc-le-zero, arith, sym, ◌∙◌, inl, inr, ⊎_elim, lt-ltb, le-ltb}
-use Rattle.std.specs.Prelude.{◌≡◌, refl, ◌⊎◌, Bool, List, length, get_or}
+use Rattle.std.specs.Prelude.{◌≡◌, refl, ◌⊎◌, Bool, List, length, get_or, if◌then◌else◌}
 use Rattle.std.proofs.Math.Bool.{true, false}
 use Rattle.std.proofs.lemmas.List.{length-map}
-use Rattle.words.specs.Words.{if◌then◌else◌, ◌<?◌, count_up}
+use Rattle.words.specs.Words.{◌<?◌, count_up}
 use Rattle.windows.specs.SumLaws.{same_yes, same_no}
 use Rattle.windows.specs.Orders.{given}
 use Rattle.windows.specs.SlotLaws.{given_last, given_joined, given_agree}

@@ -1,7 +1,7 @@
 -- Demand 3, last sentence: a plan with limits, windows, budgets and table in order is refused exactly when some needs make it hopeless.
 -- Its words, then the sentence as statements: each is a type, and Exact has a term of it.
-use Rattle.std.specs.Prelude.{ℕ, suc, ◌≤◌, ◌<◌, ◌≡◌, ◌↔◌, true, List, map, length, get_or}
-use Rattle.words.specs.Words.{if◌then◌else◌, ◌<?◌, count_up}
+use Rattle.std.specs.Prelude.{ℕ, suc, ◌≤◌, ◌<◌, ◌≡◌, ◌↔◌, true, List, map, length, get_or, if◌then◌else◌}
+use Rattle.words.specs.Words.{◌<?◌, count_up}
 use Rattle.answers.specs.declared.Answer.TheVariants.{Accepted}
 use Rattle.plan.specs.declared.Plan.{Plan}
 use Rattle.plan.specs.Plan.{job_no, is_hi, table_at, table_slots}

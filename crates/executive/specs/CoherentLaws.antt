@@ -1,12 +1,12 @@
 -- What a coherent run before its last border has: its steps are sound, and the chosen job's slots can be counted on.
 use Prim.Native.Nat.{ℕ, zero, suc, ◌+◌, ◌-◌, ◌≤◌, ◌<◌, zero-le}
 use Rattle.std.proofs.Common.{not-suc-le-zero, le_of_suc-le-suc, arith, ◌∙◌, leb-true, ltb-true}
-use Rattle.std.specs.Prelude.{Bool, true, not, ◌&&◌, ◌≡◌, refl, length, get_or}
+use Rattle.std.specs.Prelude.{Bool, true, not, ◌&&◌, ◌≡◌, refl, length, get_or, if◌then◌else◌}
 use Rattle.std.proofs.Math.Bool.{false}
 use Rattle.std.proofs.lemmas.Bool.{false≢true}
 use Rattle.std.proofs.Math.Path.{sym}
 use mathlib.Core.List.{List, [], ◌∷◌, zip_with}
-use Rattle.words.specs.Words.{if◌then◌else◌, ◌≤?◌, below0, above0, every}
+use Rattle.words.specs.Words.{◌≤?◌, below0, above0, every}
 use Rattle.words.specs.Cases.{both_hold}
 use Rattle.answers.specs.Answer.{accepted}
 use Rattle.plan.specs.declared.Job.{Job}

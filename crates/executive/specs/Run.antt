@@ -1,8 +1,7 @@
 -- The run: the fresh spares, the blank run, and a new run.
-use Rattle.std.specs.Prelude.{ℕ, ◌-◌, true, false, List, get_or, replicate}
+use Rattle.std.specs.Prelude.{ℕ, ◌-◌, true, false, List, get_or, replicate, if◌then◌else◌}
 use Rattle.plan.specs.declared.Plan.{Plan}
 use Rattle.answers.specs.declared.Answer.TheVariants.{Accepted}
-use Rattle.words.specs.Words.{if◌then◌else◌}
 use Rattle.plan.specs.Limits.{max_jobs}
 use Rattle.plan.specs.Plan.{jobs_of, blank_plan}
 use Rattle.answers.specs.Answer.{accepted}

@@ -1,9 +1,8 @@
 -- Laws of a start, one for each way out, from what the analysis says of the plan.
-use Rattle.std.specs.Prelude.{Bool, List, ◌≡◌, replicate}
+use Rattle.std.specs.Prelude.{Bool, List, ◌≡◌, replicate, if◌then◌else◌}
 use Rattle.std.proofs.Math.Bool.{true, false}
 use Rattle.std.proofs.Math.Path.{refl, sym, ap}
 use Rattle.std.proofs.Common.{◌∙◌}
-use Rattle.words.specs.Words.{if◌then◌else◌}
 use Rattle.answers.specs.declared.Answer.TheVariants.{Accepted}
 use Rattle.answers.specs.Answer.{accepted}
 use Rattle.plan.specs.declared.Plan.{Plan}

@@ -1,5 +1,5 @@
 -- Laws of one step, for the loops over a run's jobs: entries that expire, the return test, work stored job by job.
-use Rattle.std.specs.Prelude.{ℕ, zero, suc, ◌+◌, ◌-◌, ◌≤◌, ◌<◌, Bool, true, false, ◌≡◌, refl, List, [], ◌∷◌, take, drop, get_or, set}
+use Rattle.std.specs.Prelude.{ℕ, zero, suc, ◌+◌, ◌-◌, ◌≤◌, ◌<◌, Bool, true, false, ◌≡◌, refl, List, [], ◌∷◌, take, drop, get_or, set, if◌then◌else◌}
 use Rattle.std.proofs.Common.{not-suc-le-zero, le_of_suc-le-suc, ap, sym, ◌∙◌, drop_of_length-le, length-take-le}
 use Rattle.std.proofs.Math.Numerals.{add-one}
 use native.Mathlib.Omega.{arith}
@@ -7,7 +7,6 @@ use Rattle.std.proofs.Math.ListN.{length}
 use Rattle.std.proofs.Math.Seq.{drop-cons}
 use Rattle.plan.specs.declared.Job.{Job}
 use Rattle.plan.specs.Plan.{blank_job}
-use Rattle.words.specs.Words.{if◌then◌else◌}
 use Rattle.words.specs.ListLaws.{taken_from}
 use Rattle.entries.specs.declared.Entry.{Entry}
 use Rattle.executive.specs.declared.Run.{Run}

@@ -1,6 +1,6 @@
 -- What the tables with an entry for each border hold: windows by their deadline, intervals by their end. The laws are in ByDeadlineLaws.
-use Rattle.std.specs.Prelude.{ℕ, ◌+◌, ◌-◌, ◌≤◌, ◌<◌, ◌≡◌, List, [], ◌∷◌, get_or}
-use Rattle.words.specs.Words.{if◌then◌else◌, ◌<?◌}
+use Rattle.std.specs.Prelude.{ℕ, ◌+◌, ◌-◌, ◌≤◌, ◌<◌, ◌≡◌, List, [], ◌∷◌, get_or, if◌then◌else◌}
+use Rattle.words.specs.Words.{◌<?◌}
 use Rattle.plan.specs.declared.Job.{Job}
 use Rattle.plan.specs.Limits.{max_slots}
 use Rattle.intervals.specs.declared.Interval.{Interval}

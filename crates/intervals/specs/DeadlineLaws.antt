@@ -1,10 +1,10 @@
 -- Laws of the distinct deadlines, least first: they rise, and those above a border begin with the least of them.
 -- Nothing here is of jobs but their windows; the intervals made of the deadlines are in IntervalLaws.
-use Rattle.std.specs.Prelude.{ℕ, suc, ◌≤◌, ◌<◌, ◌≡◌, refl, Bool, true, false, ◌&&◌, length}
+use Rattle.std.specs.Prelude.{ℕ, suc, ◌≤◌, ◌<◌, ◌≡◌, refl, Bool, true, false, ◌&&◌, length, if◌then◌else◌}
 use Rattle.std.proofs.Common.{⊎_elim, arith, length-take, lt-ltb, le-ltb, eq-eqb, ne_eqb, ltb-true, leb-true}
 use mathlib.Core.List.{List, [], ◌∷◌, map, Memᴰ}
 use Rattle.std.proofs.lemmas.List.{length-map}
-use Rattle.words.specs.Words.{if◌then◌else◌, ◌≤?◌, ◌<?◌, ◌=?◌, every}
+use Rattle.words.specs.Words.{◌≤?◌, ◌<?◌, ◌=?◌, every}
 use Rattle.words.specs.Cases.{by_less, by_equal}
 use Rattle.plan.specs.declared.Job.{Job}
 use Rattle.plan.specs.declared.Plan.{Plan}

@@ -1,6 +1,6 @@
 -- The words of deadlines that rise: windows that hold, rising numbers, those above a border. The laws are in DeadlineLaws.
-use Rattle.std.specs.Prelude.{ℕ, ◌≤◌, ◌<◌, List, [], ◌∷◌, map}
-use Rattle.words.specs.Words.{if◌then◌else◌, ◌<?◌}
+use Rattle.std.specs.Prelude.{ℕ, ◌≤◌, ◌<◌, List, [], ◌∷◌, map, if◌then◌else◌}
+use Rattle.words.specs.Words.{◌<?◌}
 use Rattle.plan.specs.declared.Job.{Job}
 use Rattle.plan.specs.declared.Plan.{Plan}
 use Rattle.plan.specs.Limits.{max_slots, max_jobs}

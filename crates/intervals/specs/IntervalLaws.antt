@@ -1,11 +1,11 @@
 -- Laws of a plan's intervals, its windows holding: they cover 0 to N, every deadline is an end, none lies inside an interval,
 -- they are at most max_intervals, and at border t < N the current one holds slot t. How deadlines rise is in DeadlineLaws.
-use Rattle.std.specs.Prelude.{ℕ, zero, suc, ◌+◌, ◌*◌, ◌≤◌, ◌<◌, max, min, ◌≡◌, refl, ◌⊎◌, Bool, true, false, length, drop}
+use Rattle.std.specs.Prelude.{ℕ, zero, suc, ◌+◌, ◌*◌, ◌≤◌, ◌<◌, max, min, ◌≡◌, refl, ◌⊎◌, Bool, true, false, length, drop, if◌then◌else◌}
 use Rattle.std.proofs.Common.{inl, inr, ⊎_elim, not-suc-le-zero, le_of_suc-le-suc, arith, length-append, lt-ltb, le-ltb, le-leb, eq-eqb, ne_eqb}
 use mathlib.Core.List.Memᴰ
 use mathlib.Core.List.{List, [], ◌∷◌, ◌++◌, Memᴰ}
 use Rattle.std.proofs.lemmas.Bool.{lt-leb}
-use Rattle.words.specs.Words.{if◌then◌else◌, ◌<?◌, ◌=?◌}
+use Rattle.words.specs.Words.{◌<?◌, ◌=?◌}
 use Rattle.words.specs.Cases.{by_less, by_equal}
 use Rattle.plan.specs.declared.Job.{Job}
 use Rattle.plan.specs.declared.Plan.{Plan}

@@ -1,6 +1,6 @@
 -- The intervals of a plan worked out once: the list, and for each job the place of its interval in it.
-use Rattle.std.specs.Prelude.{ℕ, suc, List, [], ◌∷◌, map, length, take}
-use Rattle.words.specs.Words.{if◌then◌else◌, ◌=?◌, filled}
+use Rattle.std.specs.Prelude.{ℕ, suc, List, [], ◌∷◌, map, length, take, if◌then◌else◌}
+use Rattle.words.specs.Words.{◌=?◌, filled}
 use Rattle.plan.specs.declared.Plan.{Plan}
 use Rattle.plan.specs.Limits.{max_jobs}
 use Rattle.plan.specs.Plan.{jobs_of}

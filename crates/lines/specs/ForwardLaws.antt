@@ -1,12 +1,12 @@
 -- A reader goes forward: what it leaves of the text is an end of it, and a refusal is one of the refusing answers.
 -- It holds of a field, of one reader after another, and of many of one kind; so it holds of every reader made of these.
-use Rattle.std.specs.Prelude.{◌≡◌, refl, Bool, true, false, ◌&&◌, List, ℕ, zero, suc, ◌+◌, ◌-◌, ◌≤◌, ◌<◌, length, take, drop}
+use Rattle.std.specs.Prelude.{◌≡◌, refl, Bool, true, false, ◌&&◌, List, ℕ, zero, suc, ◌+◌, ◌-◌, ◌≤◌, ◌<◌, length, take, drop, if◌then◌else◌}
 use Rattle.std.proofs.Common.{ap, ◌∙◌, arith, length-drop, drop-drop, ltb-true}
 use Rattle.std.proofs.Math.Option.{Option, none, some}
 use Prim.Native.String.{String}
 use Rattle.answers.specs.declared.Answer.{Answer}
 use Rattle.answers.specs.Answer.{accepted}
-use Rattle.words.specs.Words.{if◌then◌else◌, ◌<?◌}
+use Rattle.words.specs.Words.{◌<?◌}
 use Rattle.lines.specs.Lines.{bytes, Cursor, Read, got, refused, Reader, onward, must, many, line_length, begins, or_form, value_in, field}
 
 -- s is the end of t from some place on

@@ -1,12 +1,12 @@
 -- Lines `key=value` of bytes: how a line is written, and how lines are read one after the other.
-use Rattle.std.specs.Prelude.{ℕ, zero, suc, ◌+◌, ◌-◌, ◌*◌, ◌/◌, ◌%◌, Bool, true, false, ◌&&◌, ◌||◌, List, [], ◌∷◌, ◌++◌, length, take, drop}
+use Rattle.std.specs.Prelude.{ℕ, zero, suc, ◌+◌, ◌-◌, ◌*◌, ◌/◌, ◌%◌, Bool, true, false, ◌&&◌, ◌||◌, List, [], ◌∷◌, ◌++◌, length, take, drop, if◌then◌else◌}
 use Prim.Native.Char.{code}
 use Prim.Native.String.{String}
 use Prim.Native.String as Str
 use Rattle.std.proofs.Math.Option.{Option, none, some}
 use Rattle.answers.specs.declared.Answer.{Answer}
 use Rattle.answers.specs.declared.Answer.TheVariants.{Form}
-use Rattle.words.specs.Words.{if◌then◌else◌, ◌≤?◌, ◌<?◌, ◌=?◌}
+use Rattle.words.specs.Words.{◌≤?◌, ◌<?◌, ◌=?◌}
 use Rattle.answers.specs.Answer.{accepted, ◌unless◌}
 
 -- the bytes of a text in quotes

@@ -1,10 +1,10 @@
 -- Laws of numbers in text: the digits of a number from the last to the first, how many there are, and that writing and reading undo each other.
-use Rattle.std.specs.Prelude.{ℕ, zero, suc, ◌+◌, ◌-◌, ◌*◌, ◌/◌, ◌%◌, ◌≤◌, ◌<◌, ◌≡◌, refl, Bool, true, false, ◌&&◌, ◌||◌, List, [], ◌∷◌, ◌++◌, length}
+use Rattle.std.specs.Prelude.{ℕ, zero, suc, ◌+◌, ◌-◌, ◌*◌, ◌/◌, ◌%◌, ◌≤◌, ◌<◌, ◌≡◌, refl, Bool, true, false, ◌&&◌, ◌||◌, List, [], ◌∷◌, ◌++◌, length, if◌then◌else◌}
 use Rattle.std.proofs.Common.{arith, sym, ap, ◌∙◌, lt-ltb, le-ltb, le-leb, ne_eqb, leb-true, ltb-false}
 use Rattle.std.proofs.Math.Decide.{dec_lt}
 use Rattle.std.proofs.Math.Option.{none, some}
 use Rattle.std.proofs.lemmas.Bool.{eqb-false}
-use Rattle.words.specs.Words.{if◌then◌else◌, ◌≤?◌, ◌<?◌, ◌=?◌}
+use Rattle.words.specs.Words.{◌≤?◌, ◌<?◌, ◌=?◌}
 use Rattle.lines.specs.Lines.{digits_in, digits, number_from, number}
 
 -- none is not some

@@ -1,10 +1,10 @@
 -- What the reading functions answer, by place: where a value stands in a text, and the number on a line.
 -- The text from place `at` on is `drop at text`; its next line starts at `line_after text at`.
-use Rattle.std.specs.Prelude.{ℕ, ◌+◌, ◌-◌, ◌≤◌, ◌≡◌, ◌&&◌, List, length, take, drop}
+use Rattle.std.specs.Prelude.{ℕ, ◌+◌, ◌-◌, ◌≤◌, ◌≡◌, ◌&&◌, List, length, take, drop, if◌then◌else◌}
 use Rattle.std.proofs.Math.Option.{Option, none, some}
 use Rattle.answers.specs.declared.Answer.{Answer}
 use Rattle.answers.specs.Answer.{accepted}
-use Rattle.words.specs.Words.{if◌then◌else◌, ◌<?◌, filled}
+use Rattle.words.specs.Words.{◌<?◌, filled}
 use Rattle.lines.specs.Lines.{Cursor, Read, got, refused, line_length, begins, number, value_in}
 use Rattle.lines.specs.declared.reading.ValueAt.{ValueAt}
 use Rattle.lines.specs.declared.reading.ValueAt.TheVariants.{At, Refused}

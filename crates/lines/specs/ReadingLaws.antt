@@ -1,7 +1,7 @@
 -- Laws of reading by place: the ways to find a value, which texts are numbers, and that a field at a place is the definitions' field.
 use Rattle.std.proofs.Math.Path.{◌≡◌, refl}
 use Rattle.std.proofs.Common.{sym, ap, zero-le, suc-le-suc, length-take, drop_of_length-le, take_all}
-use Rattle.std.specs.Prelude.{List, [], ◌∷◌, Bool, ◌&&◌, ◌||◌, get_or, take, drop, eqb}
+use Rattle.std.specs.Prelude.{List, [], ◌∷◌, Bool, ◌&&◌, ◌||◌, get_or, take, drop, eqb, if◌then◌else◌}
 use Rattle.std.proofs.Math.Bool.{true, false}
 use Rattle.std.proofs.Math.Option.{Option, none, some}
 use Prim.Native.Nat.{ℕ, zero, suc, ◌+◌, ◌-◌, ◌≤◌, ◌<◌}
@@ -12,7 +12,7 @@ use Rattle.std.proofs.Math.ListN.{length, length-drop}
 use Rattle.std.proofs.Math.Seq.{drop-drop, take-nil}
 use borrow.Author.Tests.{eqb-true, eqb-false, eq-eqb, ne_eqb, le-ltb, lt-ltb, ltb-true}
 use Rattle.answers.specs.declared.Answer.TheVariants.{Form}
-use Rattle.words.specs.Words.{if◌then◌else◌, ◌<?◌}
+use Rattle.words.specs.Words.{◌<?◌}
 use Rattle.lines.specs.Lines.{bytes, LF, got, refused, line_length, begins, same_bytes, number, number_from, value_in, field}
 use Rattle.lines.specs.Reading.{line_after, line_here, value_at, number_read, number_then, number_at, standing}
 use Rattle.lines.specs.declared.reading.ValueAt.TheVariants.{At, Refused}

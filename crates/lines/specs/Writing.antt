@@ -1,6 +1,6 @@
 -- Pieces of text written into an output at a place: a piece that has room is written whole, any other not at all.
-use Rattle.std.specs.Prelude.{ℕ, ◌+◌, Bool, List, [], ◌∷◌, ◌++◌, length, take, drop}
-use Rattle.words.specs.Words.{if◌then◌else◌, ◌≤?◌}
+use Rattle.std.specs.Prelude.{ℕ, ◌+◌, Bool, List, [], ◌∷◌, ◌++◌, length, take, drop, if◌then◌else◌}
+use Rattle.words.specs.Words.{◌≤?◌}
 use Rattle.lines.specs.Lines.{LF, digits}
 
 -- the output d with the piece w from place `at` on

@@ -1,10 +1,10 @@
 -- Laws of the counts: one slot brings them to the next border, and none is above the border.
-use Rattle.std.specs.Prelude.{ℕ, zero, suc, ◌+◌, ◌-◌, ◌≤◌, ◌<◌, Bool, true, false, ◌≡◌, refl, List, [], ◌∷◌, ◌++◌, map, length, take, set, replicate}
+use Rattle.std.specs.Prelude.{ℕ, zero, suc, ◌+◌, ◌-◌, ◌≤◌, ◌<◌, Bool, true, false, ◌≡◌, refl, List, [], ◌∷◌, ◌++◌, map, length, take, set, replicate, if◌then◌else◌}
 use Rattle.std.proofs.Common.{not-suc-le-zero, le_of_suc-le-suc, add-zero, add-suc, suc-add, add-one, arith, ap, sym, ◌∙◌, length-set, ext_get_or, get_or-set_same, get_or-set_other, take-suc, take_all}
 use Rattle.std.proofs.Math.ListN.{get_or}
 use Rattle.std.proofs.lemmas.List.{length-map}
 use borrow.Author.Tests.{eq-eqb, ne_eqb, lt-ltb, le-ltb, le-leb, lt-leb}
-use Rattle.words.specs.Words.{if◌then◌else◌, ◌=?◌, count_up}
+use Rattle.words.specs.Words.{◌=?◌, count_up}
 use Rattle.words.specs.Cases.{by_less, by_equal}
 use Rattle.plan.specs.declared.Plan.{Plan}
 use Rattle.plan.specs.Limits.{max_slots, max_jobs}

@@ -1,6 +1,6 @@
 -- The counts of table slots brought forward by one slot.
-use Rattle.std.specs.Prelude.{ℕ, ◌+◌, ◌-◌, ◌&&◌, List, get_or, set}
-use Rattle.words.specs.Words.{if◌then◌else◌, ◌<?◌}
+use Rattle.std.specs.Prelude.{ℕ, ◌+◌, ◌-◌, ◌&&◌, List, get_or, set, if◌then◌else◌}
+use Rattle.words.specs.Words.{◌<?◌}
 use Rattle.plan.specs.Limits.{max_jobs, one_to}
 
 -- the largest number that a count's type holds

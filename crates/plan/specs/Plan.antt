@@ -1,6 +1,6 @@
 -- The plan: its n jobs, its N slots, the blank one, when two are equal, and the counts of table slots.
-use Rattle.std.specs.Prelude.{ℕ, ◌+◌, ◌-◌, ◌≡◌, Bool, true, false, List, [], ◌∷◌, map, take, get_or, replicate}
-use Rattle.words.specs.Words.{if◌then◌else◌, ◌=?◌, count_up}
+use Rattle.std.specs.Prelude.{ℕ, ◌+◌, ◌-◌, ◌≡◌, Bool, true, false, List, [], ◌∷◌, map, take, get_or, replicate, if◌then◌else◌}
+use Rattle.words.specs.Words.{◌=?◌, count_up}
 use Rattle.plan.specs.declared.Level.{Level}
 use Rattle.plan.specs.declared.Level.TheVariants.{Lo, Hi}
 use Rattle.plan.specs.declared.Job.{Job}

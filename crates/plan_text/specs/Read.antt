@@ -1,5 +1,5 @@
 -- The plan text and its reading.
-use Rattle.std.specs.Prelude.{ℕ}
+use Rattle.std.specs.Prelude.{ℕ, if◌then◌else◌}
 use mathlib.Core.List.{List, ◌++◌, flat_map}
 use Rattle.std.proofs.Math.Option.{Option, none, some}
 use Rattle.plan.specs.declared.Level.{Level}
@@ -7,7 +7,7 @@ use Rattle.plan.specs.declared.Level.TheVariants.{Lo, Hi}
 use Rattle.plan.specs.declared.Job.{Job}
 use Rattle.plan.specs.declared.Plan.{Plan}
 use Rattle.answers.specs.declared.Answer.TheVariants.{Accepted, SlotLimit, JobLimit}
-use Rattle.words.specs.Words.{if◌then◌else◌, filled}
+use Rattle.words.specs.Words.{filled}
 use Rattle.plan.specs.Limits.{max_slots, max_jobs, one_to}
 use Rattle.plan.specs.Plan.{jobs_of, slots_of, blank_job, blank_plan}
 use Rattle.answers.specs.Answer.{◌unless◌}

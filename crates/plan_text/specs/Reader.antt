@@ -1,7 +1,7 @@
 -- What the reader's functions answer, by place: the level on a line, a job, the jobs, the slots, and the plan at a place of a text.
-use Rattle.std.specs.Prelude.{ℕ, ◌+◌, ◌-◌, ◌*◌, ◌≤◌, ◌≡◌, Bool, List, length, drop, replicate}
+use Rattle.std.specs.Prelude.{ℕ, ◌+◌, ◌-◌, ◌*◌, ◌≤◌, ◌≡◌, Bool, List, length, drop, replicate, if◌then◌else◌}
 use Rattle.std.proofs.Math.Option.{Option, none, some}
-use Rattle.words.specs.Words.{if◌then◌else◌, ◌≤?◌, filled}
+use Rattle.words.specs.Words.{◌≤?◌, filled}
 use Rattle.answers.specs.declared.Answer.{Answer}
 use Rattle.answers.specs.declared.Answer.TheVariants.{Accepted, Form}
 use Rattle.answers.specs.Answer.{accepted}

@@ -1,9 +1,9 @@
 -- Laws of the round trip, line by line: levels, jobs, plans. The theorems are in RoundTrip.
-use Rattle.std.specs.Prelude.{ℕ, suc, ◌≤◌, ◌≡◌, refl, Bool, true, false, ◌&&◌, length}
+use Rattle.std.specs.Prelude.{ℕ, suc, ◌≤◌, ◌≡◌, refl, Bool, true, false, ◌&&◌, length, if◌then◌else◌}
 use Rattle.std.proofs.Common.{arith, sym, ap, ◌∙◌, take_at, eqb-true, leb-true}
 use mathlib.Core.List.{List, [], ◌∷◌, ◌++◌, flat_map, append_assoc}
 use Rattle.std.proofs.Math.Option.{none, some}
-use Rattle.words.specs.Words.{if◌then◌else◌, ◌≤?◌, ◌=?◌, filled}
+use Rattle.words.specs.Words.{◌≤?◌, ◌=?◌, filled}
 use Rattle.answers.specs.declared.Answer.{Answer}
 use Rattle.answers.specs.declared.Answer.TheVariants.{SlotLimit, JobLimit}
 use Rattle.answers.specs.Answer.{accepted, ◌unless◌}

@@ -1,11 +1,11 @@
 -- The round trip, over the definitions and over what the functions promise: what is written reads back to an equal plan, what is read writes back to the same bytes, and a plan has one text.
-use Rattle.std.specs.Prelude.{ℕ, ◌≤◌, ◌≡◌, refl, Bool, true, false, drop}
+use Rattle.std.specs.Prelude.{ℕ, ◌≤◌, ◌≡◌, refl, Bool, true, false, drop, if◌then◌else◌}
 use Rattle.std.proofs.Common.{arith, ◌∙◌, length-take-le, eqb-true}
 use Rattle.std.proofs.Math.Path.{sym, ap}
 use mathlib.Core.List.{List, [], ◌∷◌, ◌++◌, append-nil}
 use Rattle.std.proofs.Math.ListN.{length, take}
 use Rattle.std.proofs.Math.Seq.{take_at, take-append_seam, drop-append_seam}
-use Rattle.words.specs.Words.{if◌then◌else◌, ◌=?◌}
+use Rattle.words.specs.Words.{◌=?◌}
 use Rattle.answers.specs.declared.Answer.{Answer}
 use Rattle.answers.specs.declared.Answer.TheVariants.{Accepted, Written, Form}
 use Rattle.answers.specs.Answer.{accepted, ◌unless◌}

@@ -1,10 +1,10 @@
 -- The writer of the plan text: its answer, and what the lent output then holds.
-use Rattle.std.specs.Prelude.{ℕ, length, drop}
+use Rattle.std.specs.Prelude.{ℕ, length, drop, if◌then◌else◌}
 use mathlib.Core.List.{List, [], ◌∷◌, ◌++◌, flat_map}
 use Rattle.plan.specs.declared.Plan.{Plan}
 use Rattle.answers.specs.declared.Answer.{Answer}
 use Rattle.answers.specs.declared.Answer.TheVariants.{Written, Form, NoRoom}
-use Rattle.words.specs.Words.{if◌then◌else◌, ◌≤?◌}
+use Rattle.words.specs.Words.{◌≤?◌}
 use Rattle.plan.specs.Limits.{max_number}
 use Rattle.plan.specs.Plan.{jobs_of, slots_of}
 use Rattle.answers.specs.Answer.{accepted, ◌unless◌, ◌and_then◌, first_refusal}

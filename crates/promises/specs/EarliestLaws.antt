@@ -2,7 +2,7 @@
 use Prim.Native.Nat.{ℕ, zero, suc, ◌+◌, ◌-◌, ◌≤◌, ◌<◌, suc-le-suc, zero-le, ◌*◌}
 use Rattle.std.proofs.Math.Decide.{dec_lt}
 use native.Mathlib.Omega.{arith}
-use Rattle.std.specs.Prelude.{◌≡◌, ◌⊎◌, Bool, not, ◌&&◌, ◌||◌, length}
+use Rattle.std.specs.Prelude.{◌≡◌, ◌⊎◌, Bool, not, ◌&&◌, ◌||◌, length, if◌then◌else◌}
 use Rattle.std.proofs.Math.Path.{refl}
 use Rattle.std.proofs.Common.{sym, ap, ◌∙◌, true≢false, get_or-take, length-take-le, eqb-true, ltb-true, ltb-false}
 use Rattle.std.proofs.Math.Logic.{⊎_elim, inl, inr}
@@ -10,7 +10,7 @@ use Rattle.std.proofs.Math.Bool.{true, false, false≢true}
 use mathlib.Core.List.{List, [], ◌∷◌, zip_with}
 use Rattle.std.proofs.Math.ListN.{get_or}
 use Rattle.std.proofs.lemmas.Bool.{eqb-false}
-use Rattle.words.specs.Words.{if◌then◌else◌, ◌=?◌, ◌<?◌}
+use Rattle.words.specs.Words.{◌=?◌, ◌<?◌}
 use Rattle.words.specs.Cases.{by_test, never}
 use Rattle.plan.specs.declared.Job.{Job}
 use Rattle.plan.specs.declared.Plan.{Plan}

@@ -1,5 +1,5 @@
 -- Laws of ends, entry by entry: histories with one event more, slots inside a window, and what the end of a job tells after one step.
-use Rattle.std.specs.Prelude.{ℕ, zero, suc, ◌+◌, ◌-◌, ◌≤◌, ◌<◌, ◌≡◌, Bool, not, ◌&&◌, List, [], ◌∷◌, ◌++◌, map, length, get_or, take, drop}
+use Rattle.std.specs.Prelude.{ℕ, zero, suc, ◌+◌, ◌-◌, ◌≤◌, ◌<◌, ◌≡◌, Bool, not, ◌&&◌, List, [], ◌∷◌, ◌++◌, map, length, get_or, take, drop, if◌then◌else◌}
 use Rattle.std.proofs.Common.{suc-le-suc, zero-le, arith, sym, ap, ◌∙◌, length-append}
 use Rattle.std.proofs.Math.Path.{refl}
 use Rattle.std.proofs.Math.Bool.{true, false}
@@ -8,7 +8,7 @@ use Rattle.std.proofs.lemmas.List.{length-map, get_or_at}
 use Rattle.std.proofs.Math.ListN.{get_or-append}
 use Rattle.std.proofs.Math.Seq.{take-nil, drop-nil}
 use borrow.Author.Tests.{leb-true, ne_eqb, eqb-true}
-use Rattle.words.specs.Words.{if◌then◌else◌, ◌≤?◌, ◌=?◌}
+use Rattle.words.specs.Words.{◌≤?◌, ◌=?◌}
 use Rattle.plan.specs.declared.Job.{Job}
 use Rattle.plan.specs.Plan.{is_hi, naming}
 use Rattle.entries.specs.declared.Entry.{Entry}

@@ -1,12 +1,12 @@
 -- The run's invariant holds at the start and is kept by every accepted step: proved phase by phase from the acceptance promise.
-use Rattle.std.specs.Prelude.{ℕ, suc, ◌+◌, ◌-◌, ◌≤◌, ◌<◌, ◌≡◌, refl, Bool, true, false, ℤ, length}
+use Rattle.std.specs.Prelude.{ℕ, suc, ◌+◌, ◌-◌, ◌≤◌, ◌<◌, ◌≡◌, refl, Bool, true, false, ℤ, length, if◌then◌else◌}
 use Rattle.std.proofs.Math.Decide.{dec_le, ℕ_discrete}
 use Rattle.std.proofs.Common.{arith, sym, ◌∙◌, ⊎_elim, eq-eqb, ne_eqb}
 use Rattle.std.proofs.Math.Path.{ap}
 use mathlib.Core.List.{List}
 use Rattle.std.proofs.Math.ListN.{get_or}
 use Rattle.std.proofs.lemmas.List.{get_or-replicate}
-use Rattle.words.specs.Words.{if◌then◌else◌, ◌=?◌, above0}
+use Rattle.words.specs.Words.{◌=?◌, above0}
 use Rattle.windows.specs.Windows.{InTime, Feasible}
 use Rattle.windows.specs.WindowLaws.{met, in_time_mono}
 use Rattle.plan.specs.declared.Plan.{Plan}

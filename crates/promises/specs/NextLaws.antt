@@ -1,5 +1,5 @@
 -- Laws of one step, entry by entry: what an accepted report changes in the record of a run.
-use Rattle.std.specs.Prelude.{ℕ, zero, suc, ◌+◌, ◌-◌, ◌≤◌, ◌<◌, ◌≡◌, Bool, ◌&&◌, List, [], ◌∷◌, get_or, set}
+use Rattle.std.specs.Prelude.{ℕ, zero, suc, ◌+◌, ◌-◌, ◌≤◌, ◌<◌, ◌≡◌, Bool, ◌&&◌, List, [], ◌∷◌, get_or, set, if◌then◌else◌}
 use Rattle.std.proofs.Common.{not-suc-le-zero, le_of_suc-le-suc, sym, ◌∙◌, length-set, length-take-le, get_or-set_same, get_or-set_other}
 use Rattle.std.proofs.Math.Decide.{ℕ_discrete}
 use native.Mathlib.Omega.{arith}
@@ -10,7 +10,7 @@ use Rattle.std.proofs.Math.ListN.{length}
 use Rattle.std.proofs.Math.Seq.{get_or-take}
 use borrow.Author.Tests.{leb-true, leb-false, ltb-true, eqb-false, lt-ltb, le-leb, eq-eqb, ne_eqb}
 use Rattle.plan.specs.declared.Job.{Job}
-use Rattle.words.specs.Words.{if◌then◌else◌, ◌≤?◌, ◌=?◌}
+use Rattle.words.specs.Words.{◌≤?◌, ◌=?◌}
 use Rattle.plan.specs.Plan.{jobs_of, job_no, is_hi, blank_job}
 use Rattle.words.specs.Cases.{both_hold}
 use Rattle.entries.specs.declared.Standing.{Standing}

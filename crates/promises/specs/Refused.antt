@@ -1,10 +1,10 @@
 -- Demand 1 over the definitions: how calls on a run are refused, and that a refused call hands back what it was given, or the blank, and writes nothing.
 -- That every call is answered stands in the functions' contracts: none has a condition.
-use Rattle.std.specs.Prelude.{ℕ, ◌≡◌, refl, ◌⊎◌, Bool, true, false, List, length, pos}
+use Rattle.std.specs.Prelude.{ℕ, ◌≡◌, refl, ◌⊎◌, Bool, true, false, List, length, pos, if◌then◌else◌}
 use Rattle.std.proofs.Common.{arith, sym, ◌∙◌, inl, inr, ⊎_elim}
 use Rattle.plan.specs.declared.Plan.{Plan}
 use Rattle.answers.specs.declared.Answer.TheVariants.{Accepted, Incoherent, Over, OtherSlot, WrongKind}
-use Rattle.words.specs.Words.{if◌then◌else◌, ◌<?◌, ◌=?◌}
+use Rattle.words.specs.Words.{◌<?◌, ◌=?◌}
 use Rattle.answers.specs.Answer.{accepted}
 use Rattle.plan.specs.Plan.{blank_plan}
 use Rattle.acceptance.specs.Acceptance.{acceptance}

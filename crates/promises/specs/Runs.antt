@@ -1,7 +1,6 @@
 -- What the theorems say of runs: when a report is taken, the slots of a history, and what every run that comes from a start keeps. Definitions only.
 -- In the invariant jobs are counted by their place, from 0, as in the acceptance promise.
-use Rattle.std.specs.Prelude.{ℕ, suc, ◌≤◌, ◌<◌, ◌≡◌, Bool, true, false, List, ◌∷◌, length, take, drop, get_or}
-use Rattle.words.specs.Words.{if◌then◌else◌}
+use Rattle.std.specs.Prelude.{ℕ, suc, ◌≤◌, ◌<◌, ◌≡◌, Bool, true, false, List, ◌∷◌, length, take, drop, get_or, if◌then◌else◌}
 use Rattle.answers.specs.Answer.{accepted}
 use Rattle.windows.specs.Windows.{Feasible}
 use Rattle.plan.specs.declared.Job.{Job}

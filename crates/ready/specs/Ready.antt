@@ -1,7 +1,7 @@
 -- Sets of jobs: who is ready, a set as one number, how many it holds, and its member of earliest deadline. The laws are in ReadyLaws.
-use Rattle.std.specs.Prelude.{ℕ, zero, suc, ◌+◌, ◌-◌, ◌*◌, ◌/◌, ◌%◌, Bool, true, false, not, ◌&&◌, ◌||◌, get_or}
+use Rattle.std.specs.Prelude.{ℕ, zero, suc, ◌+◌, ◌-◌, ◌*◌, ◌/◌, ◌%◌, Bool, true, false, not, ◌&&◌, ◌||◌, get_or, if◌then◌else◌}
 use mathlib.Core.List.{List, [], ◌∷◌, zip_with}
-use Rattle.words.specs.Words.{if◌then◌else◌, ◌≤?◌, ◌<?◌, ◌=?◌}
+use Rattle.words.specs.Words.{◌≤?◌, ◌<?◌, ◌=?◌}
 use Rattle.plan.specs.declared.Job.{Job}
 use Rattle.plan.specs.Plan.{blank_job, is_hi}
 use Rattle.entries.specs.declared.Entry.{Entry}

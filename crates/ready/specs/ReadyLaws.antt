@@ -1,11 +1,11 @@
 -- Laws of sets of jobs, over the width: built job by job, walked by the lowest member, counted by the ones.
-use Rattle.std.specs.Prelude.{ℕ, zero, suc, ◌+◌, ◌-◌, ◌*◌, ◌/◌, ◌%◌, ◌^◌, ◌≤◌, ◌<◌, Bool, true, ◌||◌, ◌≡◌, refl, List, [], ◌∷◌, ◌++◌, length, take, get_or}
+use Rattle.std.specs.Prelude.{ℕ, zero, suc, ◌+◌, ◌-◌, ◌*◌, ◌/◌, ◌%◌, ◌^◌, ◌≤◌, ◌<◌, Bool, true, ◌||◌, ◌≡◌, refl, List, [], ◌∷◌, ◌++◌, length, take, get_or, if◌then◌else◌}
 use Rattle.std.proofs.Common.{pow-suc, add-zero, not-suc-le-zero, le_of_suc-le-suc, add-one, sym, ap, subst, ◌∙◌, lit<, shl_exact, take-suc, length-take-le, eq-eqb, ne_eqb}
 use native.Mathlib.Omega.{arith}
 use Rattle.std.proofs.Math.Bool.{false}
 use Rattle.std.specs.Int.Bits.{bit_or, or_shifted_r}
 use Rattle.std.specs.Int.Count.{ones, ones_step, count_trailing_zeros, under}
-use Rattle.words.specs.Words.{if◌then◌else◌, ◌=?◌}
+use Rattle.words.specs.Words.{◌=?◌}
 use Rattle.words.specs.ZipLaws.{zipped_length, zipped_at}
 use Rattle.plan.specs.declared.Job.{Job}
 use Rattle.plan.specs.Plan.{blank_job}

@@ -1,8 +1,8 @@
 // The ready jobs as one 32-bit set, job 1 at bit 0, and the earliest-deadline walk over a set. Who gets a slot is chosen in executive.
 #![tactic(auto)]
 
-ghost use Rattle.std.specs.Prelude.{◌≡◌, ◌||◌, ◌-◌, ◌≤◌, ◌<◌, take};
-ghost use Rattle.words.specs.Words.{if◌then◌else◌, ◌=?◌};
+ghost use Rattle.std.specs.Prelude.{◌≡◌, ◌||◌, ◌-◌, ◌≤◌, ◌<◌, take, if◌then◌else◌};
+ghost use Rattle.words.specs.Words.{◌=?◌};
 ghost use Rattle.plan.specs.Limits.{max_jobs};
 ghost use Rattle.ready.specs.Ready.{is_member, members_among, members_of, set_of, goes_before, earliest, slot_of};
 

@@ -1,7 +1,6 @@
 -- The words of the run program's loop: the bytes in hand, one event, a console at rest, and a program that has seen all input so far.
 -- What an event is and prints, and a session after some pieces of input, are in console.
-use Rattle.std.specs.Prelude.{ℕ, suc, ◌+◌, ◌-◌, ◌≤◌, ◌<◌, ◌≡◌, true, List, [], ◌++◌, length, take, drop}
-use Rattle.words.specs.Words.{if◌then◌else◌}
+use Rattle.std.specs.Prelude.{ℕ, suc, ◌+◌, ◌-◌, ◌≤◌, ◌<◌, ◌≡◌, true, List, [], ◌++◌, length, take, drop, if◌then◌else◌}
 use Rattle.plan_text.specs.DecidedLaws.{enough}
 use Rattle.console.specs.declared.run.Console.{Console}
 use Rattle.console.specs.Run.{run_output}

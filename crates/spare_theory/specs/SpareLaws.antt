@@ -1,5 +1,5 @@
 -- Spares are due sums in disguise: the closed form of the current spare (S1), and its sign (S2).
-use Rattle.std.specs.Prelude.{ℕ, zero, suc, ◌+◌, ◌-◌, ◌≤◌, ◌<◌, max, ◌≡◌, refl, ◌↔◌, true, false, ℤ, pos, negsuc, get_or, replicate}
+use Rattle.std.specs.Prelude.{ℕ, zero, suc, ◌+◌, ◌-◌, ◌≤◌, ◌<◌, max, ◌≡◌, refl, ◌↔◌, true, false, ℤ, pos, negsuc, get_or, replicate, if◌then◌else◌}
 use Rattle.std.proofs.Math.Decide.{dec_le, ℕ_discrete}
 use native.Mathlib.Omega.{arith}
 use Rattle.std.proofs.Common.{sym, ◌∙◌, le-leb, eq-eqb, ne_eqb, ltb-true, lt-ltb}
@@ -8,7 +8,7 @@ use mathlib.Core.List.Memᴰ
 use mathlib.Core.List.{List, [], ◌∷◌, ◌++◌}
 use Rattle.std.proofs.Math.ListN.{length}
 use Rattle.std.proofs.lemmas.Bool.{lt-leb}
-use Rattle.words.specs.Words.{if◌then◌else◌, ◌=?◌, below0, above0}
+use Rattle.words.specs.Words.{◌=?◌, below0, above0}
 use Rattle.words.specs.Difference.{Is, is_pos, is_sub, is_add, is_as}
 use Rattle.windows.specs.Sums.{total, gate}
 use Rattle.windows.specs.SumLaws.{total_same, total_none, total_add, total_mono, gate_open, gate_shut, gate_case}

@@ -1,7 +1,7 @@
 -- The words in which a row is worked out in naturals: from last to first a debt is carried, what the intervals from here on ask beyond their room.
 -- The spares themselves are defined in Spares; that both agree is proved in RowLaws and DebtLaws.
-use Rattle.std.specs.Prelude.{ℕ, suc, ◌+◌, ◌-◌, ◌*◌, ◌≤◌, ◌<◌, max, Bool, ◌≡◌, List, [], ◌∷◌, ◌++◌, map, ℤ, pos, get_or, set, length, take, drop, replicate}
-use Rattle.words.specs.Words.{if◌then◌else◌, ◌≤?◌, ◌<?◌, count_up}
+use Rattle.std.specs.Prelude.{ℕ, suc, ◌+◌, ◌-◌, ◌*◌, ◌≤◌, ◌<◌, max, Bool, ◌≡◌, List, [], ◌∷◌, ◌++◌, map, ℤ, pos, get_or, set, length, take, drop, replicate, if◌then◌else◌}
+use Rattle.words.specs.Words.{◌≤?◌, ◌<?◌, count_up}
 use Rattle.plan.specs.Limits.{max_jobs}
 use Rattle.intervals.specs.declared.Interval.{Interval}
 use Rattle.intervals.specs.declared.Layout.{Layout}

@@ -1,8 +1,8 @@
 -- A current interval in debt is one whose spare is below 0.
 -- The words are in Debt; the laws of the sums and of whole rows are in RowLaws.
-use Rattle.std.specs.Prelude.{ℕ, zero, suc, ◌+◌, ◌-◌, ◌*◌, ◌≤◌, ◌<◌, ◌≡◌, refl, Bool, true, false, List, [], ◌∷◌, ◌++◌, ℤ, pos, negsuc, get_or, length, take, drop, replicate}
+use Rattle.std.specs.Prelude.{ℕ, zero, suc, ◌+◌, ◌-◌, ◌*◌, ◌≤◌, ◌<◌, ◌≡◌, refl, Bool, true, false, List, [], ◌∷◌, ◌++◌, ℤ, pos, negsuc, get_or, length, take, drop, replicate, if◌then◌else◌}
 use Rattle.std.proofs.Common.{arith, sym, ap, ◌∙◌, lt-ltb, le-ltb, length-take, length-drop}
-use Rattle.words.specs.Words.{if◌then◌else◌, ◌≤?◌, ◌<?◌, below0}
+use Rattle.words.specs.Words.{◌≤?◌, ◌<?◌, below0}
 use Rattle.words.specs.BackLaws.{back_step}
 use Rattle.words.specs.Difference.{Is}
 use Rattle.intervals.specs.declared.Interval.{Interval}

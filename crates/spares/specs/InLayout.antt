@@ -1,6 +1,6 @@
 -- The row of a layout: the same recurrence, by the places of the jobs' homes. Of a plan's own layout it is the plan's row (InLayoutLaws).
-use Rattle.std.specs.Prelude.{ℕ, suc, ◌+◌, List, [], ◌∷◌, ℤ, pos, get_or}
-use Rattle.words.specs.Words.{if◌then◌else◌, ◌=?◌, filled}
+use Rattle.std.specs.Prelude.{ℕ, suc, ◌+◌, List, [], ◌∷◌, ℤ, pos, get_or, if◌then◌else◌}
+use Rattle.words.specs.Words.{◌=?◌, filled}
 use Rattle.intervals.specs.declared.Interval.{Interval}
 use Rattle.intervals.specs.declared.Layout.{Layout}
 use Rattle.intervals.specs.Intervals.{max_intervals}

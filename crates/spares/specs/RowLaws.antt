@@ -1,13 +1,13 @@
 -- A row worked out with a debt is the row of spares, and the sums by home are the work of the places. The words are in Debt;
 -- that a layout's row is the plan's stands in LayoutLaws.
-use Rattle.std.specs.Prelude.{ℕ, suc, ◌+◌, ◌-◌, ◌*◌, ◌≤◌, ◌<◌, ◌≡◌, refl, Bool, true, false, ℤ, pos, negsuc, set, length, take, replicate}
+use Rattle.std.specs.Prelude.{ℕ, suc, ◌+◌, ◌-◌, ◌*◌, ◌≤◌, ◌<◌, ◌≡◌, refl, Bool, true, false, ℤ, pos, negsuc, set, length, take, replicate, if◌then◌else◌}
 use Rattle.std.proofs.Common.{sym, ap, ◌∙◌, arith, add-one, le-leb, lt-ltb, le-ltb, eq-eqb, ne_eqb, drop_of_length-le, ext_get_or, length-take-le, get_or-set_same, get_or-set_other, drop-cons}
 use mathlib.Core.List.{List, [], ◌∷◌}
 use Rattle.std.proofs.lemmas.Bool.{lt-leb}
 use Rattle.std.proofs.Math.IntN.{sub_ℕ}
 use Rattle.std.proofs.Math.ListN.{get_or, length-set, drop, length-replicate}
 use Rattle.std.proofs.lemmas.List.{length-map, get_or-replicate}
-use Rattle.words.specs.Words.{if◌then◌else◌, ◌≤?◌, ◌<?◌, ◌=?◌, count_up, filled}
+use Rattle.words.specs.Words.{◌≤?◌, ◌<?◌, ◌=?◌, count_up, filled}
 use Rattle.words.specs.Cases.{by_less, by_equal}
 use Rattle.words.specs.ListLaws.{taken_from}
 use Rattle.words.specs.PartLaws.{drop_replicate, drop_set}

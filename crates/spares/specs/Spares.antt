@@ -1,8 +1,8 @@
 -- The spares. A row is made of one list of work, a number a job: HI row, LO row and check 9 are one definition.
-use Rattle.std.specs.Prelude.{ℕ, ◌+◌, ◌-◌, max, Bool, false, ◌&&◌, ℤ, pos, negsuc, ◌+ℤ◌, get_or, replicate}
+use Rattle.std.specs.Prelude.{ℕ, ◌+◌, ◌-◌, max, Bool, false, ◌&&◌, ℤ, pos, negsuc, ◌+ℤ◌, get_or, replicate, if◌then◌else◌}
 use mathlib.Core.List.{List, [], ◌∷◌, zip_with}
 use Rattle.std.proofs.Math.IntN.{sub_ℕ}
-use Rattle.words.specs.Words.{if◌then◌else◌, ◌≤?◌, ◌=?◌, every, filled}
+use Rattle.words.specs.Words.{◌≤?◌, ◌=?◌, every, filled}
 use Rattle.plan.specs.declared.Job.{Job}
 use Rattle.plan.specs.declared.Plan.{Plan}
 use Rattle.plan.specs.Plan.{jobs_of, is_hi}

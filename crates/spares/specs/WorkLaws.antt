@@ -1,5 +1,5 @@
 -- Laws of the work: how many numbers, one more stored, and the rows of a plan by its own layout.
-use Rattle.std.specs.Prelude.{ℕ, suc, ◌+◌, ◌-◌, ◌≤◌, ◌<◌, Bool, false, ◌≡◌, refl, pos, take, get_or, set, replicate}
+use Rattle.std.specs.Prelude.{ℕ, suc, ◌+◌, ◌-◌, ◌≤◌, ◌<◌, Bool, false, ◌≡◌, refl, pos, take, get_or, set, replicate, if◌then◌else◌}
 use Rattle.std.proofs.Common.{not-suc-le-zero, le_of_suc-le-suc, add-one, arith, sym, ◌∙◌, take-suc}
 use Rattle.std.proofs.Math.Bool.{true}
 use Rattle.std.proofs.Math.Path.{ap}
@@ -7,7 +7,7 @@ use mathlib.Core.List.{List, [], ◌∷◌, ◌++◌}
 use Rattle.std.proofs.Math.ListN.{length}
 use Rattle.std.proofs.Math.Seq.{length-take-le}
 use Rattle.std.proofs.lemmas.List.{set_at}
-use Rattle.words.specs.Words.{if◌then◌else◌, ◌=?◌, filled}
+use Rattle.words.specs.Words.{◌=?◌, filled}
 use Rattle.words.specs.ZipLaws.{zipped_length, zipped_at}
 use Rattle.plan.specs.declared.Job.{Job}
 use Rattle.plan.specs.declared.Plan.{Plan}

@@ -1,9 +1,9 @@
 -- What the programs' reading and writing promise: which bytes stay, how many came or went, and which failures pass.
 -- Which bytes the C library reads and writes no promise can say.
-use Rattle.std.specs.Prelude.{ℕ, ◌+◌, ◌≤◌, ◌<◌, ◌≡◌, List, length, take, ℤ}
+use Rattle.std.specs.Prelude.{ℕ, ◌+◌, ◌≤◌, ◌<◌, ◌≡◌, List, length, take, ℤ, if◌then◌else◌}
 use Rattle.std.specs.Int.{w32}
 use Rattle.std.proofs.Common.{of_z}
-use Rattle.words.specs.Words.{if◌then◌else◌, ◌=?◌}
+use Rattle.words.specs.Words.{◌=?◌}
 use Rattle.streams.specs.declared.Came.{Came}
 use Rattle.streams.specs.declared.Came.TheVariants.{Bytes, End, Failed}
 use Rattle.streams.specs.declared.Tried.{Tried}

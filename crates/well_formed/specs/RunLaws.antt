@@ -1,10 +1,10 @@
 -- Laws of runs: a run has one first slot, so one pass with the slot before counts the runs of every job.
-use Rattle.std.specs.Prelude.{ℕ, suc, ◌+◌, ◌-◌, ◌≤◌, ◌<◌, ◌≡◌, refl, Bool, true, false, not, ◌&&◌, List, [], ◌∷◌, map, take, drop, get_or, set}
+use Rattle.std.specs.Prelude.{ℕ, suc, ◌+◌, ◌-◌, ◌≤◌, ◌<◌, ◌≡◌, refl, Bool, true, false, not, ◌&&◌, List, [], ◌∷◌, map, take, drop, get_or, set, if◌then◌else◌}
 use Rattle.std.proofs.Common.{arith, sym, ◌∙◌, length-set, drop_of_length-le, get_or-set_same, get_or-set_other, length-take-le, eq-eqb, ne_eqb, eqb-true}
 use Rattle.std.proofs.Math.ListN.{length}
 use Rattle.std.proofs.lemmas.List.{get_or-replicate}
 use Rattle.std.proofs.Math.Numerals.{add-one}
-use Rattle.words.specs.Words.{if◌then◌else◌, ◌=?◌, ◌<?◌}
+use Rattle.words.specs.Words.{◌=?◌, ◌<?◌}
 use Rattle.words.specs.Cases.{by_test, by_less, by_equal}
 use Rattle.words.specs.ListLaws.{taken_from}
 use Rattle.plan.specs.Limits.{max_jobs, one_to}

@@ -1,6 +1,6 @@
 -- The runs of all jobs counted in one pass over the table, with the slot before.
-use Rattle.std.specs.Prelude.{ℕ, List, [], ◌∷◌, replicate}
-use Rattle.words.specs.Words.{if◌then◌else◌, ◌=?◌}
+use Rattle.std.specs.Prelude.{ℕ, List, [], ◌∷◌, replicate, if◌then◌else◌}
+use Rattle.words.specs.Words.{◌=?◌}
 use Rattle.plan.specs.Limits.{max_jobs}
 use Rattle.plan.specs.Counts.{counted_with}
 

@@ -1,6 +1,6 @@
 -- Runs of table slots: the table as its longest rows of adjoining slots of one job, and the rule of check 17.
-use Rattle.std.specs.Prelude.{ℕ, suc, Bool, List, [], ◌∷◌, map}
-use Rattle.words.specs.Words.{if◌then◌else◌, ◌≤?◌, ◌=?◌}
+use Rattle.std.specs.Prelude.{ℕ, suc, Bool, List, [], ◌∷◌, map, if◌then◌else◌}
+use Rattle.words.specs.Words.{◌≤?◌, ◌=?◌}
 use Rattle.plan.specs.declared.Plan.{Plan}
 use Rattle.plan.specs.Plan.{slots_of, naming}
 

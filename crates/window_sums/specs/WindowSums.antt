@@ -1,6 +1,6 @@
 -- Check 8: the hi of the HI jobs in a window, summed, against the window's length. The sums are over any list of jobs.
-use Rattle.std.specs.Prelude.{ℕ, ◌-◌, ◌&&◌, ◌||◌, List, [], ◌∷◌, map}
-use Rattle.words.specs.Words.{if◌then◌else◌, ◌≤?◌, sum}
+use Rattle.std.specs.Prelude.{ℕ, ◌-◌, ◌&&◌, ◌||◌, List, [], ◌∷◌, map, if◌then◌else◌}
+use Rattle.words.specs.Words.{◌≤?◌, sum}
 use Rattle.answers.specs.declared.Answer.{Answer}
 use Rattle.answers.specs.declared.Answer.TheVariants.{Overfull}
 use Rattle.answers.specs.Answer.{◌unless◌, first_refusal}

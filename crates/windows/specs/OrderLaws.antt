@@ -1,9 +1,9 @@
 -- An order of the coming slots exists exactly when no window is overfull: W7 builds it, the earliest deadline first, and W8 shows that none exists else.
-use Rattle.std.specs.Prelude.{ℕ, zero, suc, ◌+◌, ◌-◌, ◌≤◌, ◌<◌, max, ◌≡◌, refl, ◌⊎◌, ◌↔◌}
+use Rattle.std.specs.Prelude.{ℕ, zero, suc, ◌+◌, ◌-◌, ◌≤◌, ◌<◌, max, ◌≡◌, refl, ◌⊎◌, ◌↔◌, if◌then◌else◌}
 use Rattle.std.proofs.Common.{zero-le, not-suc-le-zero, arith, inl, inr, eq-eqb, ne_eqb}
 use Rattle.std.proofs.Math.Decide.{dec_le, ℕ_discrete}
 use Rattle.std.proofs.Math.Logic.{⊎_elim}
-use Rattle.words.specs.Words.{if◌then◌else◌, ◌=?◌}
+use Rattle.words.specs.Words.{◌=?◌}
 use Rattle.windows.specs.Sums.{total, gate, same}
 use Rattle.windows.specs.SumLaws.{total_mono, gate_open, gate_case, gate_none, same_yes, same_no}
 use Rattle.windows.specs.Windows.{Windows, due_at, due_by, inside_at, within, Feasible, Ready}

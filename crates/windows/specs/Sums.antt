@@ -1,6 +1,6 @@
 -- Totals over the numbers below n, and numbers that count only under a test. Definitions only: SumLaws has the laws.
-use Rattle.std.specs.Prelude.{ℕ, zero, suc, ◌+◌}
-use Rattle.words.specs.Words.{if◌then◌else◌, ◌≤?◌, ◌=?◌}
+use Rattle.std.specs.Prelude.{ℕ, zero, suc, ◌+◌, if◌then◌else◌}
+use Rattle.words.specs.Words.{◌≤?◌, ◌=?◌}
 
 -- the total of f over the numbers below n
 unfoldable pub total : ℕ → (ℕ → ℕ) → ℕ

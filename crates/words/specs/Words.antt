@@ -1,11 +1,6 @@
 -- The few words of every definition: choice, tests, sums, lists that fill an array. Nothing here is of the trade.
 use Rattle.std.specs.Prelude.{ℕ, zero, suc, ◌+◌, ◌-◌, Bool, true, false, ◌&&◌, List, [], ◌∷◌, ◌++◌, leb, ltb, eqb, ℤ, pos, negsuc, length, replicate}
 
-infixr 20 if◌then◌else◌
-abbrev pub if◌then◌else◌ : {A : Type 0} → Bool → A → A → A
-if true then a else b = a
-if false then a else b = b
-
 -- the three tests of numbers
 infix 40 ◌≤?◌ ◌<?◌ ◌=?◌
 abbrev pub ◌≤?◌ : ℕ → ℕ → Bool
