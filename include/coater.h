@@ -1,4 +1,5 @@
-/* The proved runtime for a host program in C: link target/staticlib/libembed.a, which `rt staticlib embed` makes.
+/* The proved runtime for a host program in C: link libembed.a, a copy of crates/embed_c/out/libembed_c.a, which `rt lib`
+ * makes in crates/embed_c.
  *
  * Every text is answered. A call keeps nothing for the next one, allocates nothing, and reads and writes only what it is
  * lent. A host owes it this: every pointer is good for the length beside it, and what is lent for writing overlaps nothing

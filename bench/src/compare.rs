@@ -1,7 +1,7 @@
 //! The random comparison: every input through the model and through the other side, stopped at a difference.
 
 use std::io::Write;
-use std::path::Path;
+use std::path::{Path, PathBuf};
 use std::process::{Command, Stdio};
 
 use crate::model::{check_output, run_output, Kind};
@@ -75,30 +75,27 @@ fn kinds(run: &[u8]) -> Vec<u8> {
 }
 
 /// The two built programs, started once for each input.
-pub struct Programs<'a> {
-    pub folder: &'a Path,
+pub struct Programs {
+    pub check: PathBuf,
+    pub run: PathBuf,
 }
 
-impl Programs<'_> {
-    fn printed(&self, name: &str, text: &[u8]) -> Vec<u8> {
-        let mut child = Command::new(self.folder.join(name))
-            .stdin(Stdio::piped())
-            .stdout(Stdio::piped())
-            .spawn()
-            .expect("a built program");
-        // A program may stop reading at a refusal; what it prints fits the pipe, so neither side waits.
-        let _ = child.stdin.take().expect("its standard input").write_all(text);
-        child.wait_with_output().expect("its output").stdout
-    }
+/// What the program prints for this input.
+fn printed(program: &Path, text: &[u8]) -> Vec<u8> {
+    let mut child =
+        Command::new(program).stdin(Stdio::piped()).stdout(Stdio::piped()).spawn().expect("a built program");
+    // A program may stop reading at a refusal; what it prints fits the pipe, so neither side waits.
+    let _ = child.stdin.take().expect("its standard input").write_all(text);
+    child.wait_with_output().expect("its output").stdout
 }
 
-impl Printed for Programs<'_> {
+impl Printed for Programs {
     fn check(&mut self, text: &[u8]) -> Vec<u8> {
-        self.printed("check_plan", text)
+        printed(&self.check, text)
     }
 
     fn run(&mut self, text: &[u8]) -> Vec<u8> {
-        self.printed("run_plan", text)
+        printed(&self.run, text)
     }
 }
 

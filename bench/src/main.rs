@@ -16,8 +16,8 @@ bench expand               the model's plan text for a task sheet on standard in
 bench judge                the model's verdict on a plan, its reports and a log on standard input
 bench mix SEED COUNT       what COUNT random inputs are made of
 bench compare SEED COUNT   the linked product against the model (feature `product`)
-bench programs SEED COUNT  target/bin/check_plan and run_plan against the model, then 300 runs in pieces
-bench pieces SEED COUNT    target/bin/run_plan against the model, its input in pieces
+bench programs SEED COUNT  the built check_plan and run_plan against the model, then 300 runs in pieces
+bench pieces SEED COUNT    the built run_plan against the model, its input in pieces
 bench speed                the product's times beside the tight model's (feature `product`)
 bench largest              the speed table's largest plan
 bench largest-run          the same with its reports, an input of the run program
@@ -89,21 +89,20 @@ fn mix(seed: u64, count: usize) -> ExitCode {
 /// How many runs `programs` feeds in pieces.
 const IN_PIECES: usize = 300;
 
-/// Where the built programs are: target/bin of this repository, or the folder PROGRAMS_DIR.
-fn folder() -> PathBuf {
-    let built = Path::new(env!("CARGO_MANIFEST_DIR")).join("../target/bin");
-    std::env::var_os("PROGRAMS_DIR").map_or(built, PathBuf::from)
+/// Where a built program is: crates/NAME/out/NAME of this repository, or NAME in the folder PROGRAMS_DIR.
+fn built(name: &str) -> PathBuf {
+    let crates = Path::new(env!("CARGO_MANIFEST_DIR")).join("../crates");
+    let folder = std::env::var_os("PROGRAMS_DIR").map_or(crates.join(name).join("out"), PathBuf::from);
+    folder.join(name)
 }
 
 fn programs(seed: u64, count: usize) -> ExitCode {
-    let folder = folder();
-    success(
-        compare::compare(&mut Programs { folder: &folder }, seed, count) && pieces::pieces(&folder, seed, IN_PIECES),
-    )
+    let mut programs = Programs { check: built("check_plan"), run: built("run_plan") };
+    success(compare::compare(&mut programs, seed, count) && pieces::pieces(&programs.run, seed, IN_PIECES))
 }
 
 fn pieces(seed: u64, count: usize) -> ExitCode {
-    success(pieces::pieces(&folder(), seed, count))
+    success(pieces::pieces(&built("run_plan"), seed, count))
 }
 
 #[cfg(feature = "product")]

@@ -112,16 +112,16 @@ fn run_input(rng: &mut Rng) -> (Vec<u8>, Vec<u8>) {
     }
 }
 
-/// Feeds `count` inputs in pieces to the run program in `folder`. False, after printing the input, at the first whose
+/// Feeds `count` inputs in pieces to the run program. False, after printing the input, at the first whose
 /// output is not the model's, and where too few pieces were read by themselves to tell anything.
-pub fn pieces(folder: &Path, seed: u64, count: usize) -> bool {
+pub fn pieces(program: &Path, seed: u64, count: usize) -> bool {
     let mut rng = Rng::new(seed);
     let (mut sent, mut alone, mut reports) = (0, 0, 0);
     for index in 0..count {
         let cut = CUTS[index % CUTS.len()];
         let (text, model) = run_input(&mut rng);
         let pieces = cut.pieces(&mut rng, &text);
-        let (printed, read) = fed(&folder.join("run_plan"), &pieces, &mut rng);
+        let (printed, read) = fed(program, &pieces, &mut rng);
         if !same(index, &format!("run, in pieces ({cut:?}),"), &text, &model, &printed) {
             return false;
         }
