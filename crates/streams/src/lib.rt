@@ -7,6 +7,8 @@ ghost use Rattle.std.specs.Prelude.{◌≤◌, ◌≡◌, length};
 ghost use Rattle.std.specs.IoError.{raw_os_error};
 ghost use Rattle.streams.specs.Streams.{ReadAfter, TriedRead, MovedIn, NoneMoved, brought_by, fault_of, fault_seen};
 
+use arrayvec::ArrayString;
+use std::fmt::Write as _;
 use std::io::{Eprint, Error, Read, Write};
 use std::thread;
 
@@ -70,6 +72,18 @@ fn pause() {
     thread::yield_now();
 }
 
+// One line on standard error: what failed, and the system's words for the error, without its number.
+fn say(rt: &impl Eprint, what: &str, error: &Error) {
+    let mut said = ArrayString::<256>::new();
+    let _ = write!(said, "{error}");
+    let text = said.as_str();
+    let words = match text.split_once(" (os error ") {
+        Some((words, _)) => words,
+        None => text,
+    };
+    let _ = eprintln!(rt; "{what}: {words}");
+}
+
 // After a call that failed: whether it is made again, after a wait where nothing could be moved yet.
 fn after_failure(rt: &impl Eprint, what: &str, error: Error) -> Tried
     ensures { NoneMoved result }
@@ -81,7 +95,7 @@ fn after_failure(rt: &impl Eprint, what: &str, error: Error) -> Tried
             Tried::Again
         }
         Fault::Broken => {
-            let _ = eprintln!(rt; "{what}: {error}");
+            say(rt, what, &error);
             Tried::Failed
         }
     }
