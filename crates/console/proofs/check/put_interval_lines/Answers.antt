@@ -25,8 +25,6 @@ put_interval_line-at-requires c = let l = c.loop-i in piece_room l.invariant.6 l
 pub loop-i-preserved : goal.loop-i-preserved
 loop-i-preserved c =
     let l = c.loop-i in
-    let y = c.put_interval_line-arg-in-loop-i-2-1.given in
-    let z = c.put_interval_line-arg-in-loop-i-3-1.given in
     let v = l.invariant in (
       omega arith,
       v.1,
@@ -34,7 +32,7 @@ loop-i-preserved c =
       v.3,
       v.4,
       v.5,
-      interval_written _ _ _ _ _ _ (omega arith) _ _ _ _ _ (omega arith) (omega arith) (omega arith) v.6 (to_z-of_z {w = w32} (record { sfits = y })) (to_z-of_z {w = w32} (record { sfits = z })) c.put_interval_line-at.ensures,
+      interval_written _ _ _ _ _ _ (omega arith) _ _ _ _ _ (omega arith) (omega arith) (omega arith) v.6 (to_z-of_z {w = w32} (record { sfits = omega arith })) (to_z-of_z {w = w32} (record { sfits = omega arith })) c.put_interval_line-at.ensures,
     )
 
 pub shape_of-out : goal.shape_of-out
