@@ -15,17 +15,13 @@ use Rattle.entries.specs.declared.Kind.TheVariants.{End, More, None}
 use Rattle.executive.specs.declared.Report.{Report}
 use Rattle.lines.specs.declared.reading.ValueAt.TheVariants.{At, Refused}
 use Rattle.lines.specs.declared.reading.Number.{Number}
-use Rattle.lines.specs.declared.reading.Number.TheVariants as Number
 use Rattle.lines.specs.Lines.{bytes, comma, same_bytes, number, got, refused, line_length, or_form, value_in, field}
 use Rattle.lines.specs.Reading.{value_at, number_read}
 use Rattle.lines.specs.ReadingLaws.{value_there, value_none, value_within}
 use Rattle.lines.specs.RoundLaws.{cursor}
 use Rattle.console.specs.declared.reports.KindName.{KindName}
-use Rattle.console.specs.declared.reports.KindName.TheVariants as KindName
 use Rattle.console.specs.declared.reports.ReportName.{ReportName}
-use Rattle.console.specs.declared.reports.ReportName.TheVariants as ReportName
 use Rattle.console.specs.declared.reports.ReportAt.{ReportAt}
-use Rattle.console.specs.declared.reports.ReportAt.TheVariants as ReportAt
 use Rattle.console.specs.Run.{kind_in, before_comma, report, report_in}
 
 abbrev pub kind_read : Option Kind → KindName

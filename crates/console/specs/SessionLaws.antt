@@ -36,7 +36,6 @@ use Rattle.console.specs.declared.run.Stage.{Stage}
 use Rattle.console.specs.declared.run.Stage.TheVariants.{Reading, Running, Stopped}
 use Rattle.console.specs.declared.run.Console.{Console}
 use Rattle.console.specs.declared.reports.ReportAt.{ReportAt}
-use Rattle.console.specs.declared.reports.ReportAt.TheVariants as ReportAt
 use Rattle.console.specs.Print.{refused_line}
 use Rattle.console.specs.Check.{check_output}
 use Rattle.console.specs.Run.{report_in, end, next, report_then, reports_in, step_line, job_lines, go_on, started_output, run_output}

@@ -30,7 +30,6 @@ use Rattle.console.specs.declared.run.Stage.TheVariants.{Reading, Running, Stopp
 use Rattle.console.specs.declared.run.Console.{Console}
 use Rattle.console.specs.declared.run.Turn.{Turn}
 use Rattle.console.specs.declared.reports.ReportAt.{ReportAt}
-use Rattle.console.specs.declared.reports.ReportAt.TheVariants as ReportAt
 use Rattle.console.specs.Print.{refused_line}
 use Rattle.console.specs.Run.{step_line, job_lines}
 use Rattle.console.specs.Reports.{report_at, report_within}

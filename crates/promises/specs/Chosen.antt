@@ -1,6 +1,5 @@
 -- What the theorems say of the choice: who leads whom, the earliest of some jobs, the ready jobs. Definitions only.
 use Rattle.std.specs.Prelude.{ℕ, ◌≤◌, ◌<◌, ◌≡◌, ◌⊎◌, true, false}
-use Rattle.plan.specs.declared.Job.{Job}
 use Rattle.plan.specs.declared.Plan.{Plan}
 use Rattle.plan.specs.Plan.{job_no, is_hi}
 use Rattle.executive.specs.declared.Run.{Run}

@@ -5,7 +5,6 @@ use Rattle.std.proofs.Math.Path.{refl}
 use Rattle.std.proofs.Math.Logic.{⊎_elim, inl, inr}
 use Rattle.std.proofs.Math.Bool.{true, false}
 use Rattle.words.specs.Words.{◌≤?◌, above0, below0}
-use Rattle.plan.specs.declared.Job.{Job}
 use Rattle.plan.specs.Plan.{job_no, is_hi, table_at}
 use Rattle.well_formed.specs.InOrder.{InOrder, JobOf}
 use Rattle.words.specs.Cases.{both_hold, never}

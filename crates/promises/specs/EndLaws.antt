@@ -15,7 +15,7 @@ use Rattle.entries.specs.declared.Entry.{Entry}
 use Rattle.executive.specs.declared.Phase.{Phase}
 use Rattle.executive.specs.declared.Phase.TheVariants.{H}
 use Rattle.promises.specs.Told.{job_run, first_end, left_alone}
-use Rattle.promises.specs.Demands.{Event, event, jobs_run, phase_at}
+use Rattle.promises.specs.Demands.{Event, jobs_run, phase_at}
 use Rattle.entries.specs.Entry.{live, waiting, standing_after, ran_on}
 use Rattle.entries.specs.declared.Standing.{Standing}
 use Rattle.entries.specs.declared.Standing.TheVariants.{Waiting, Finished, Cut, Dropped}

@@ -1,8 +1,7 @@
 -- `expired_entry` meets its contract: each early return is a part of the test that fails, the last value the test that holds.
 use mathlib.Core.Path.{sym, ◌∙◌}
-use borrow.Author.Tests.{not-true, not-false, le-leb, lt-leb}
+use borrow.Author.Tests.{le-leb, lt-leb}
 use Rattle.entries.specs.Entry.{expired_entry}
-use borrow.Author.Rules.{rules}
 use Rattle.entries.proofs.expired_entry.Goals as goal
 
 pub returns-then-not-is_live : goal.returns-then-not-is_live

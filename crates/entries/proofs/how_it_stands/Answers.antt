@@ -1,5 +1,4 @@
 -- `how_it_stands` meets its contract, letter by letter.
-use borrow.Author.Rules.{rules}
 use Rattle.entries.proofs.how_it_stands.Goals as goal
 
 pub returns-in-Finished : goal.returns-in-Finished

@@ -1,8 +1,6 @@
 -- `past_lo` meets its contract: each early return is a part of the test that fails, the last value what is left of it.
 use mathlib.Core.Path.{sym, ◌∙◌}
-use borrow.Author.Tests.{not-true, not-false}
 use Rattle.entries.specs.Entry.{past_lo}
-use borrow.Author.Rules.{rules}
 use Rattle.entries.proofs.past_lo.Goals as goal
 
 pub returns-then-not-is_live : goal.returns-then-not-is_live

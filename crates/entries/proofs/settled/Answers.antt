@@ -1,8 +1,7 @@
 -- `settled` meets its contract: an ended job is settled, one behind its table slots is not, any other by `past_lo`.
 use mathlib.Core.Path.{sym, ◌∙◌}
-use borrow.Author.Tests.{not-true, not-false, le-leb, lt-leb}
+use borrow.Author.Tests.{le-leb, lt-leb}
 use Rattle.entries.specs.Entry.{settled}
-use borrow.Author.Rules.{rules}
 use Rattle.entries.proofs.settled.Goals as goal
 
 pub returns-then-not-is_live : goal.returns-then-not-is_live

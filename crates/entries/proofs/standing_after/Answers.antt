@@ -1,7 +1,6 @@
 -- `standing_after` meets its contract, kind by kind.
 use borrow.Author.Tests.{eq-eqb, ne_eqb}
 use Rattle.entries.specs.Entry.{standing_after}
-use borrow.Author.Rules.{rules}
 use Rattle.entries.proofs.standing_after.Goals as goal
 
 pub returns-then-given-hi : goal.returns-then-given-hi

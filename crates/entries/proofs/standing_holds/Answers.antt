@@ -1,7 +1,6 @@
 -- `standing_holds` meets its contract: a live job, then an ended one.
 use mathlib.Core.Path.{sym, ◌∙◌}
 use Rattle.entries.specs.Entry.{standing_holds}
-use borrow.Author.Rules.{rules}
 use Rattle.entries.proofs.standing_holds.Goals as goal
 
 pub returns-in-Live : goal.returns-in-Live

@@ -1,5 +1,4 @@
 -- `blank_run` meets its contract, by that of the blank plan.
-use borrow.Author.Rules.{rules}
 use Rattle.executive.proofs.blank_run.Goals as goal
 
 pub returns : goal.returns

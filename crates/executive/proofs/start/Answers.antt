@@ -1,7 +1,5 @@
 -- `start` meets its contract: the analysis decides between a new run and the blank one.
-use borrow.Author.Tests.{not-true, not-false}
 use Rattle.executive.specs.StartLaws.{start_refused, start_made}
-use borrow.Author.Rules.{rules}
 use Rattle.executive.proofs.start.Goals as goal
 
 pub returns-then-not-is_accepted : goal.returns-then-not-is_accepted

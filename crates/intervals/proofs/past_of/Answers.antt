@@ -1,9 +1,9 @@
 -- `intervals::past_of` meets its contract. The loop's invariant: the passed intervals and those past among the rest are all that are past.
-use Prim.Native.Nat.{◌≤◌, ◌-◌, ◌+◌}
+use Prim.Native.Nat.{◌≤◌}
 use mathlib.Core.Path.{◌≡◌, refl, ◌∙◌, ap}
 use native.Mathlib.Omega.{arith}
 use borrow.Author.Rules.{rules}
-use lib.ListN.{length, take, drop}
+use lib.ListN.{length, take}
 use Rattle.words.specs.ListLaws.{long}
 use Rattle.words.specs.PassedLaws.{passed_on, passed_here, passed_all}
 use Rattle.intervals.specs.Intervals.{max_intervals, past}

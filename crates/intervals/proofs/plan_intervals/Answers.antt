@@ -2,12 +2,10 @@
 use mathlib.Core.Path.{◌≡◌, sym, ap, ◌∙◌}
 use mathlib.Core.Bool.{true}
 use native.Mathlib.Omega.{arith}
-use borrow.Author.Tests.{not-true, not-false}
 use Rattle.plan.specs.Rules.{windows_hold}
 use Rattle.intervals.specs.DeadlineLaws.{within_limits}
 use Rattle.intervals.specs.IntervalLaws.{intervals_are, no_intervals}
 use Rattle.intervals.specs.Laid.{laid}
-use borrow.Author.Rules.{rules}
 use Rattle.intervals.proofs.plan_intervals.Goals as goal
 use Rattle.intervals.proofs.plan_intervals.Goals.{Else-not-windows_hold}
 

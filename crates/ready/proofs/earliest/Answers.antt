@@ -1,11 +1,10 @@
 -- `earliest` meets its contract. The invariant: the walk from the best so far over what is left is the whole walk. The measure is the set itself.
-use Prim.Native.Nat.{◌*◌, ◌%◌, ◌^◌, ◌≤◌, ◌<◌}
+use Prim.Native.Nat.{◌*◌, ◌%◌, ◌^◌}
 use native.Mathlib.Omega.{arith}
 use mathlib.Core.Path.{◌≡◌, refl, sym, ◌∙◌}
 use lib.Count.{count_trailing_zeros}
 use lib.Pow.{pow_pos}
-use Rattle.plan.specs.Limits.{max_jobs}
-use Rattle.ready.specs.Ready.{earliest_from, earliest, members_of, slot_of}
+use Rattle.ready.specs.Ready.{earliest, slot_of}
 use Rattle.ready.specs.ReadyLaws.{Lowest, lowest, one_shl, turn, turn_le, walk_end}
 use borrow.Author.Rules.{rules}
 use Rattle.ready.proofs.earliest.Goals as goal

@@ -1,13 +1,8 @@
 -- `earliest` meets its contract. The invariant: the walk from the best so far over what is left is the whole walk. The measure is the set itself.
-use Prim.Native.Nat.{◌*◌, ◌%◌, ◌^◌, ◌≤◌, ◌<◌}
-use native.Mathlib.Omega.{arith}
-use mathlib.Core.Path.{◌≡◌, refl, sym, ◌∙◌}
-use lib.Count.{count_trailing_zeros}
-use lib.Pow.{pow_pos}
+use Prim.Native.Nat.{◌^◌, ◌≤◌, ◌<◌}
+use mathlib.Core.Path.{◌≡◌}
 use Rattle.plan.specs.Limits.{max_jobs}
 use Rattle.ready.specs.Ready.{earliest_from, earliest, members_of, slot_of}
-use Rattle.ready.specs.ReadyLaws.{Lowest, lowest, one_shl, turn, turn_le, walk_end}
-use borrow.Author.Rules.{rules}
 use Rattle.ready.proofs.earliest.Given as goal
 
 abbrev pub invariant-loop-rest : goal.invariant-loop-rest

@@ -1,8 +1,7 @@
 -- `goes_before` meets its contract: the tests of the order, one after the other.
 use mathlib.Core.Path.{sym, ◌∙◌}
-use borrow.Author.Tests.{not-true, not-false, lt-ltb, le-ltb, eq-eqb, ne_eqb}
+use borrow.Author.Tests.{lt-ltb, le-ltb, eq-eqb, ne_eqb}
 use Rattle.ready.specs.Ready.{goes_before}
-use borrow.Author.Rules.{rules}
 use Rattle.ready.proofs.goes_before.Goals as goal
 
 pub returns-then-i-j : goal.returns-then-i-j

@@ -2,12 +2,11 @@
 use Prim.Native.Nat.{ℕ}
 use mathlib.Core.Bool.{Bool, true, false}
 use mathlib.Core.Path.{◌≡◌, sym, ◌∙◌}
-use borrow.Author.Tests.{not-true, not-false, le-leb, lt-leb}
+use borrow.Author.Tests.{le-leb, lt-leb}
 use Rattle.plan.specs.declared.Job.{Job}
 use Rattle.plan.specs.Plan.{is_hi}
 use Rattle.entries.specs.declared.Entry.{Entry}
 use Rattle.ready.specs.Ready.{is_ready, is_member}
-use borrow.Author.Rules.{rules}
 use Rattle.ready.proofs.is_member.Goals as goal
 
 not_ready : (hi : Bool) (t : ℕ) (j : Job) (e : Entry) → is_ready t j e ≡ false → false ≡ is_member hi t j e

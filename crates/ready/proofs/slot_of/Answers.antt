@@ -3,7 +3,6 @@ use Prim.Native.Nat.{ℕ, zero, suc}
 use mathlib.Core.Path.{◌≡◌, refl}
 use Rattle.ready.specs.declared.Slot.{Slot}
 use Rattle.ready.specs.Ready.{slot_of}
-use borrow.Author.Rules.{rules}
 use Rattle.ready.proofs.slot_of.Goals as goal
 
 named : (k : ℕ) → (k ≡ 0 → ⊥) → Slot.Job k ≡ slot_of k

@@ -1,7 +1,6 @@
 -- `winner` meets its contract: the two halves of its test, one after the other.
 use mathlib.Core.Path.{sym, ◌∙◌}
 use borrow.Author.Tests.{eq-eqb, ne_eqb}
-use borrow.Author.Rules.{rules}
 use Rattle.ready.proofs.winner.Goals as goal
 
 pub returns-then-best-eq0 : goal.returns-then-best-eq0

@@ -1,5 +1,4 @@
 -- `spares::asked_of` meets its contract: by whether the interval is past.
-use borrow.Author.Rules.{rules}
 use borrow.Author.Tests.{le-leb, lt-leb}
 use Rattle.spares.specs.Debt.{asked}
 use Rattle.spares.proofs.asked_of.Goals as goal

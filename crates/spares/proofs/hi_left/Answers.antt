@@ -1,7 +1,6 @@
 -- `spares::hi_left` meets its contract: by whether the job is live, then by its level.
 use borrow.Author.Tests.{not-true, not-false}
 use Rattle.spares.specs.Spares.{hi_left}
-use borrow.Author.Rules.{rules}
 use Rattle.std.proofs.Common.{ap}
 use Rattle.std.specs.Prelude.{not}
 use Rattle.spares.proofs.hi_left.Goals as goal

@@ -1,5 +1,4 @@
 -- `spares::lo_left` meets its contract: by whether the job is live.
-use borrow.Author.Rules.{rules}
 use Rattle.spares.specs.Spares.{lo_left}
 use Rattle.spares.proofs.lo_left.Goals as goal
 

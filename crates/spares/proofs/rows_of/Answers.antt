@@ -1,5 +1,4 @@
 -- `rows_of` meets its contract: the work of both rows, then each row.
-use borrow.Author.Rules.{rules}
 use Rattle.spares.proofs.rows_of.Goals as goal
 
 pub returns : goal.returns

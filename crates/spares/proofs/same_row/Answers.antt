@@ -1,12 +1,12 @@
 -- `same_row` meets its contract. The invariant: the comparison from here on is the whole one; two spares are the same when their bits are.
-use Prim.Native.Nat.{ℕ, ◌≤◌, ◌-◌, ◌<◌, ◌^◌}
+use Prim.Native.Nat.{ℕ, ◌≤◌, ◌<◌, ◌^◌}
 use native.Mathlib.Omega.{arith}
 use mathlib.Core.Bool.{true, false}
 use mathlib.Core.List.{List, zip_with}
 use mathlib.Core.Path.{◌≡◌, refl, sym, ap, ◌∙◌}
 use borrow.Author.Tests.{eq-eqb, ne_eqb}
 use lib.IntN.{ℤ, pos, negsuc}
-use lib.ListN.{length, take, drop, get_or}
+use lib.ListN.{length, get_or}
 use lib.Seq.{take_all}
 use lib.Signed.{mag}
 use mir.Facts.{to_z-of_z}
@@ -57,7 +57,7 @@ pub loop-i-preserved : goal.loop-i-preserved
 loop-i-preserved c =
     let a = c.args.a in
     let b = c.args.b in
-    (search rules, every_on same_spare a b max_intervals (first-full (goal.at.loop-i-preserved c).Start) (second-full (goal.at.loop-i-preserved c).Start) c.loop-i.i (pos 0) (pos 0) c.loop-i-test.true (same (get_or a c.loop-i.i (pos 0)) (get_or b c.loop-i.i (pos 0)) c.x-1.given c.y-1.given c.if-x-y.false) ∙ c.loop-i.invariant.1)
+    (search rules, every_on same_spare a b max_intervals (first-full (goal.at.loop-i-preserved c).Start) (second-full (goal.at.loop-i-preserved c).Start) c.loop-i.i (pos 0) (pos 0) c.loop-i-test.true (same (get_or a c.loop-i.i (pos 0)) (get_or b c.loop-i.i (pos 0)) (omega arith) (omega arith) c.if-x-y.false) ∙ c.loop-i.invariant.1)
 
 pub returns : goal.returns
 returns c =

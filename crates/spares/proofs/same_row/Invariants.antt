@@ -1,22 +1,11 @@
 -- `same_row` meets its contract. The invariant: the comparison from here on is the whole one; two spares are the same when their bits are.
-use Prim.Native.Nat.{ℕ, ◌≤◌, ◌-◌, ◌<◌, ◌^◌}
-use native.Mathlib.Omega.{arith}
-use mathlib.Core.Bool.{true, false}
-use mathlib.Core.List.{List, zip_with}
-use mathlib.Core.Path.{◌≡◌, refl, sym, ap, ◌∙◌}
-use borrow.Author.Tests.{eq-eqb, ne_eqb}
-use lib.IntN.{ℤ, pos, negsuc}
-use lib.ListN.{length, take, drop, get_or}
-use lib.Seq.{take_all}
-use lib.Signed.{mag}
-use mir.Facts.{to_z-of_z}
-use mir.Syntax.{w32}
-use mir.Val.{of_z, to_z}
+use Prim.Native.Nat.{◌≤◌, ◌-◌}
+use mathlib.Core.List.{zip_with}
+use mathlib.Core.Path.{◌≡◌}
+use lib.ListN.{take, drop}
 use Rattle.words.specs.Words.{every}
 use Rattle.intervals.specs.Intervals.{max_intervals}
 use Rattle.spares.specs.Spares.{same_spare, same_row}
-use Rattle.words.specs.ZipLaws.{every_on, every_not, every_end}
-use borrow.Author.Rules.{rules}
 use Rattle.spares.proofs.same_row.Given as goal
 
 abbrev pub invariant-loop-i : goal.invariant-loop-i

@@ -1,7 +1,6 @@
 -- `spares::signed` meets its contract: both numbers are small, so the difference of their bits is their difference.
 use Prim.Native.Nat.{◌+◌}
 use native.Mathlib.Omega.{arith}
-use borrow.Author.Rules.{rules}
 use lib.IntN.{◌-ℤ◌}
 use mir.Syntax.{w32}
 use mir.Val.{to_z}

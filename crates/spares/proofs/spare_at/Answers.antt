@@ -15,4 +15,4 @@ returns-then-place-ge-INTERVALS c =
     rw (get_or-eq_default c.args.row (pos 0) {n = c.args.place} (omega arith))
 
 pub returns : goal.returns
-returns c = to_z-of_z {w = w32} (record { sfits = c.result-1.given })
+returns c = to_z-of_z {w = w32} (record { sfits = omega arith })

@@ -1,15 +1,14 @@
 -- `check4` meets its contract: the answer from a job on is the whole answer.
-use Prim.Native.Nat.{ℕ, ◌+◌, ◌-◌, ◌≤◌}
+use Prim.Native.Nat.{ℕ, ◌≤◌}
 use native.Mathlib.Omega.{arith}
 use mathlib.Core.Bool.{Bool}
 use mathlib.Core.Path.{◌≡◌, refl, sym, ◌∙◌}
-use lib.ListN.{length, take, drop}
+use lib.ListN.{length}
 use borrow.Author.Rules.{rules}
-use borrow.Author.Tests.{not-true, not-false}
 use Rattle.words.specs.ListLaws.{long}
 use Rattle.answers.specs.declared.Answer.{Answer}
 use Rattle.answers.specs.declared.Answer.TheVariants.{Window}
-use Rattle.answers.specs.Answer.{accepted, first_refusal, ◌unless◌}
+use Rattle.answers.specs.Answer.{accepted}
 use Rattle.answers.specs.AnswerLaws.{first_end_lem}
 use Rattle.plan.specs.declared.Job.{Job}
 use Rattle.plan.specs.Limits.{max_jobs}

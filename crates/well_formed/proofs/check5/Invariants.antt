@@ -1,21 +1,13 @@
 -- `check5` meets its contract: the answer from a job on is the whole answer.
 use Prim.Native.Nat.{ℕ, ◌+◌, ◌-◌, ◌≤◌}
-use native.Mathlib.Omega.{arith}
-use mathlib.Core.Bool.{Bool}
-use mathlib.Core.Path.{◌≡◌, refl, sym, ◌∙◌}
-use lib.ListN.{length, take, drop}
-use borrow.Author.Rules.{rules}
-use borrow.Author.Tests.{not-true, not-false}
-use Rattle.words.specs.ListLaws.{long}
+use mathlib.Core.Path.{◌≡◌}
+use lib.ListN.{take, drop}
 use Rattle.answers.specs.declared.Answer.{Answer}
 use Rattle.answers.specs.declared.Answer.TheVariants.{Budget}
-use Rattle.answers.specs.Answer.{accepted, first_refusal, ◌unless◌}
-use Rattle.answers.specs.AnswerLaws.{first_end_lem}
+use Rattle.answers.specs.Answer.{first_refusal, ◌unless◌}
 use Rattle.plan.specs.declared.Job.{Job}
 use Rattle.plan.specs.Limits.{max_jobs}
-use Rattle.plan.specs.Plan.{blank_job}
 use Rattle.plan.specs.Rules.{budget_holds}
-use Rattle.answers.specs.AnswerLaws.{rule_on, rule_found}
 use Rattle.well_formed.proofs.check5.Given as goal
 
 abbrev pub judge : ℕ → ℕ → Job → Answer

@@ -6,18 +6,18 @@ use mathlib.Core.List.{List}
 use mathlib.Core.Path.{◌≡◌, refl, sym, ap, ◌∙◌}
 use lib.ListN.{length, take, drop, get_or}
 use borrow.Author.Rules.{rules}
-use borrow.Author.Tests.{not-true, not-false, lt-leb}
+use borrow.Author.Tests.{lt-leb}
 use Rattle.words.specs.Words.{◌≤?◌, ◌<?◌, ◌=?◌}
 use Rattle.answers.specs.declared.Answer.{Answer}
 use Rattle.answers.specs.declared.Answer.TheVariants.{TableSlot}
-use Rattle.answers.specs.Answer.{accepted, first_refusal, ◌unless◌}
+use Rattle.answers.specs.Answer.{accepted}
 use Rattle.answers.specs.AnswerLaws.{first_end_lem}
 use Rattle.plan.specs.declared.Plan.{Plan}
 use Rattle.plan.specs.Limits.{max_slots, max_jobs}
 use Rattle.plan.specs.Plan.{blank_job, counts_at}
 use Rattle.plan.specs.CountLaws.{counts_start, counts_on}
 use Rattle.well_formed.specs.WellFormed.{slot_holds, check6}
-use Rattle.well_formed.specs.RunWords.{no_runs, runs_from}
+use Rattle.well_formed.specs.RunWords.{runs_from}
 use Rattle.well_formed.specs.RunLaws.{runs_on, runs_end}
 use Rattle.well_formed.proofs.Laws.{by_le}
 use Rattle.answers.specs.AnswerLaws.{rule_on, rule_found}

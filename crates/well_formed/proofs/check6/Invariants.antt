@@ -1,26 +1,15 @@
 -- `check6` meets its contract: the answer from slot t on is the whole answer, and the counts are those of border t.
-use Prim.Native.Nat.{ℕ, ◌+◌, ◌-◌, ◌≤◌}
-use native.Mathlib.Omega.{arith}
-use mathlib.Core.Bool.{◌&&◌, ◌||◌, false≢true}
-use mathlib.Core.List.{List}
-use mathlib.Core.Path.{◌≡◌, refl, sym, ap, ◌∙◌}
-use lib.ListN.{length, take, drop, get_or}
-use borrow.Author.Rules.{rules}
-use borrow.Author.Tests.{not-true, not-false, lt-leb}
-use Rattle.words.specs.Words.{◌≤?◌, ◌<?◌, ◌=?◌}
+use Prim.Native.Nat.{ℕ, ◌-◌, ◌≤◌}
+use mathlib.Core.Path.{◌≡◌}
+use lib.ListN.{take, drop}
 use Rattle.answers.specs.declared.Answer.{Answer}
 use Rattle.answers.specs.declared.Answer.TheVariants.{TableSlot}
-use Rattle.answers.specs.Answer.{accepted, first_refusal, ◌unless◌}
-use Rattle.answers.specs.AnswerLaws.{first_end_lem}
+use Rattle.answers.specs.Answer.{first_refusal, ◌unless◌}
 use Rattle.plan.specs.declared.Plan.{Plan}
-use Rattle.plan.specs.Limits.{max_slots, max_jobs}
-use Rattle.plan.specs.Plan.{blank_job, counts_at}
-use Rattle.plan.specs.CountLaws.{counts_start, counts_on}
-use Rattle.well_formed.specs.WellFormed.{slot_holds, check6}
+use Rattle.plan.specs.Limits.{max_slots}
+use Rattle.plan.specs.Plan.{counts_at}
+use Rattle.well_formed.specs.WellFormed.{slot_holds}
 use Rattle.well_formed.specs.RunWords.{no_runs, runs_from}
-use Rattle.well_formed.specs.RunLaws.{runs_on, runs_end}
-use Rattle.well_formed.proofs.Laws.{by_le}
-use Rattle.answers.specs.AnswerLaws.{rule_on, rule_found}
 use Rattle.well_formed.proofs.check6.Given as goal
 
 abbrev pub judge : Plan → ℕ → ℕ → Answer

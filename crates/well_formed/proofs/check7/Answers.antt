@@ -4,14 +4,14 @@ use native.Mathlib.Omega.{arith}
 use mathlib.Core.Bool.{Bool}
 use mathlib.Core.List.{List}
 use mathlib.Core.Path.{◌≡◌, refl, ap, sym, ◌∙◌}
-use lib.ListN.{length, take, drop, get_or}
+use lib.ListN.{length, get_or}
 use borrow.Author.Rules.{rules}
 use borrow.Author.Tests.{eq-eqb, ne_eqb}
 use Rattle.words.specs.Words.{◌=?◌}
 use Rattle.words.specs.ListLaws.{long}
 use Rattle.answers.specs.declared.Answer.{Answer}
 use Rattle.answers.specs.declared.Answer.TheVariants.{TableCount}
-use Rattle.answers.specs.Answer.{accepted, first_refusal, ◌unless◌}
+use Rattle.answers.specs.Answer.{accepted}
 use Rattle.answers.specs.AnswerLaws.{first_end_lem}
 use Rattle.plan.specs.declared.Job.{Job}
 use Rattle.plan.specs.Limits.{max_jobs}

@@ -1,5 +1,4 @@
 -- `count_run` meets its contract: a slot that goes on the row before it counts nothing.
-use borrow.Author.Rules.{rules}
 use borrow.Author.Tests.{eq-eqb, ne_eqb}
 use Rattle.well_formed.specs.RunWords.{runs_with}
 use Rattle.well_formed.proofs.count_run.Goals as goal

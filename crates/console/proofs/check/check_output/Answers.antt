@@ -1,8 +1,6 @@
 -- `check::check_output` meets its promise: with room for every output, what is written is the whole output.
-use borrow.Author.Rules.{rules}
 use native.Mathlib.Omega.{arith}
 use mathlib.Core.Path.{sym, ◌∙◌}
-use borrow.Author.Tests.{not-true, not-false}
 use Rattle.console.specs.Pieces.{piece_is}
 use Rattle.console.specs.Lists.{check_no_room, check_written_lem, check_refused, check_analysed}
 use Rattle.console.proofs.check.check_output.Goals as goal

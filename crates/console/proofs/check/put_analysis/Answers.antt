@@ -1,8 +1,6 @@
 -- `check::put_analysis` meets its promise: the refusal, or the interval lines and the answer after them.
-use borrow.Author.Rules.{rules}
 use native.Mathlib.Omega.{arith}
 use mathlib.Core.Path.{sym, ◌∙◌}
-use borrow.Author.Tests.{not-true, not-false}
 use Rattle.console.specs.Pieces.{piece_within, piece_then, piece_is}
 use Rattle.console.specs.Lists.{analysis_refused, analysis_accepted}
 use Rattle.console.proofs.check.put_analysis.Goals as goal

@@ -1,17 +1,17 @@
 -- `check::put_interval_lines` meets its promise. The invariant: the lines of the intervals passed stand at the start of the output.
 use borrow.Author.Rules.{rules}
 use native.Mathlib.Omega.{arith}
-use Prim.Native.Nat.{◌*◌, ◌-◌, ◌≤◌, min}
+use Prim.Native.Nat.{min}
 use mathlib.Core.Path.{◌≡◌, sym, ap}
 use mathlib.Core.List.{List}
 use Rattle.intervals.specs.declared.Interval.{Interval}
-use lib.ListN.{length, take}
+use lib.ListN.{length}
 use mir.Facts.{to_z-of_z}
 use mir.Syntax.{w32}
 use Rattle.words.specs.ListLaws.{long}
 use Rattle.console.specs.Check.{interval_lines}
-use Rattle.console.specs.Pieces.{Piece, longest, piece_none, piece_within, piece_long, piece_room, piece_is}
-use Rattle.console.specs.Lists.{check_room, intervals_none, interval_written, listed_all}
+use Rattle.console.specs.Pieces.{longest, piece_none, piece_within, piece_long, piece_room, piece_is}
+use Rattle.console.specs.Lists.{intervals_none, interval_written, listed_all}
 use Rattle.console.proofs.check.put_interval_lines.Goals as goal
 
 pub loop-i-init : goal.loop-i-init
@@ -25,8 +25,6 @@ put_interval_line-at-requires c = let l = c.loop-i in piece_room l.invariant.6 l
 pub loop-i-preserved : goal.loop-i-preserved
 loop-i-preserved c =
     let l = c.loop-i in
-    let y = c.put_interval_line-arg-in-loop-i-2-1.given in
-    let z = c.put_interval_line-arg-in-loop-i-3-1.given in
     let v = l.invariant in (
       omega arith,
       v.1,
@@ -34,7 +32,7 @@ loop-i-preserved c =
       v.3,
       v.4,
       v.5,
-      interval_written _ _ _ _ _ _ (omega arith) _ _ _ _ _ (omega arith) (omega arith) (omega arith) v.6 (to_z-of_z {w = w32} (record { sfits = y })) (to_z-of_z {w = w32} (record { sfits = z })) c.put_interval_line-at.ensures,
+      interval_written _ _ _ _ _ _ (omega arith) _ _ _ _ _ (omega arith) (omega arith) (omega arith) v.6 (to_z-of_z {w = w32} (record { sfits = omega arith })) (to_z-of_z {w = w32} (record { sfits = omega arith })) c.put_interval_line-at.ensures,
     )
 
 pub shape_of-out : goal.shape_of-out

@@ -1,17 +1,10 @@
 -- `check::put_interval_lines` meets its promise. The invariant: the lines of the intervals passed stand at the start of the output.
-use borrow.Author.Rules.{rules}
-use native.Mathlib.Omega.{arith}
-use Prim.Native.Nat.{◌*◌, ◌-◌, ◌≤◌, min}
-use mathlib.Core.Path.{◌≡◌, sym, ap}
-use mathlib.Core.List.{List}
-use Rattle.intervals.specs.declared.Interval.{Interval}
+use Prim.Native.Nat.{◌*◌, ◌-◌, ◌≤◌}
+use mathlib.Core.Path.{◌≡◌}
 use lib.ListN.{length, take}
-use mir.Facts.{to_z-of_z}
-use mir.Syntax.{w32}
-use Rattle.words.specs.ListLaws.{long}
 use Rattle.console.specs.Check.{interval_lines}
-use Rattle.console.specs.Pieces.{Piece, longest, piece_none, piece_within, piece_long, piece_room, piece_is}
-use Rattle.console.specs.Lists.{check_room, intervals_none, interval_written, listed_all}
+use Rattle.console.specs.Pieces.{Piece, longest}
+use Rattle.console.specs.Lists.{check_room}
 use Rattle.console.proofs.check.put_interval_lines.Given as goal
 
 abbrev pub invariant-loop-i : goal.invariant-loop-i

@@ -1,5 +1,4 @@
 -- `print::magnitude` meets its promise: below 0 the size of z + 1, and one more.
-use borrow.Author.Rules.{rules}
 use native.Mathlib.Omega.{arith}
 use Prim.Native.Nat.{◌+◌, ◌<◌, ◌^◌}
 use mathlib.Core.Path.{◌≡◌}

@@ -1,5 +1,4 @@
 -- `print::phase_letter` meets its promise, case by case.
-use borrow.Author.Rules.{rules}
 use Rattle.console.proofs.print.phase_letter.Goals as goal
 
 pub returns-in-T : goal.returns-in-T

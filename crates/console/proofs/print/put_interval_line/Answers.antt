@@ -6,7 +6,6 @@ use mir.Syntax.{w32}
 use Rattle.console.specs.Pieces.{piece_within, piece_then, piece_is}
 use Rattle.console.specs.Printed.{four_values}
 use Rattle.console.proofs.Signed.{closed_same}
-use borrow.Author.Rules.{rules}
 use Rattle.console.proofs.print.put_interval_line.Goals as goal
 
 -- slice-aggregate-put-key : tie.Need-slice-aggregate-put-key

@@ -6,7 +6,6 @@ use mathlib.Core.Path.{ap}
 use Prim.Native.Nat.{ℕ}
 use Rattle.console.specs.Pieces.{piece_within, piece_then, piece_is}
 use Rattle.console.specs.Printed.{three_values}
-use borrow.Author.Rules.{rules}
 use Rattle.console.proofs.print.put_job_line.Goals as goal
 
 -- slice-aggregate-put-key : tie.Need-slice-aggregate-put-key

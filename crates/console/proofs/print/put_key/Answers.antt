@@ -1,5 +1,4 @@
 -- `print::put_key` meets its promise: with room for it, the key is written.
-use borrow.Author.Rules.{rules}
 use Rattle.console.specs.Pieces.{piece_fit}
 use Rattle.console.proofs.print.put_key.Goals as goal
 

@@ -1,5 +1,4 @@
 -- `print::put_letter` meets its promise: one byte after the other.
-use borrow.Author.Rules.{rules}
 use native.Mathlib.Omega.{arith}
 use lib.ListN.{length-set}
 use Rattle.console.specs.Pieces.{piece_byte, piece_room, piece_then}

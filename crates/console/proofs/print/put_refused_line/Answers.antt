@@ -2,7 +2,6 @@
 use native.Mathlib.Omega.{arith}
 use Rattle.console.specs.Pieces.{piece_within, piece_then, piece_is}
 use Rattle.console.specs.Printed.{refused_one, refused_two}
-use borrow.Author.Rules.{rules}
 use Rattle.console.proofs.print.put_refused_line.Goals as goal
 
 -- slice-aggregate-put-key : tie.Need-slice-aggregate-put-key

@@ -1,5 +1,4 @@
 -- `print::put_spare` meets its promise: the sign where the spare is below 0, and its size.
-use borrow.Author.Rules.{rules}
 use native.Mathlib.Omega.{arith}
 use mathlib.Core.Path.{sym, ◌∙◌}
 use mir.Facts.{to_z-of_z}

@@ -1,5 +1,4 @@
 -- `print::put_value` meets its promise: the digits, and one byte after them.
-use borrow.Author.Rules.{rules}
 use native.Mathlib.Omega.{arith}
 use Rattle.console.specs.Pieces.{piece_byte, piece_room, piece_then, digits_twenty}
 use Rattle.console.proofs.print.put_value.Goals as goal

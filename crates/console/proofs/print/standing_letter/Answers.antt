@@ -1,5 +1,4 @@
 -- `print::standing_letter` meets its promise, case by case.
-use borrow.Author.Rules.{rules}
 use Rattle.console.proofs.print.standing_letter.Goals as goal
 
 pub returns-in-Waiting : goal.returns-in-Waiting

@@ -1,10 +1,8 @@
 -- `reports::before_comma` meets its promise. The invariant: from here on the first comma is where it is from the start on.
 use mathlib.Core.Path.{◌≡◌}
 use Prim.Native.Nat.{◌+◌, ◌-◌}
-use native.Mathlib.Omega.{arith}
 use lib.ListN.{length, drop}
 use Rattle.console.specs.Run.{before_comma}
-use Rattle.console.specs.Reports.{comma_hit, comma_miss, comma_out}
 use Rattle.console.proofs.reports.before_comma.Given as goal
 
 abbrev pub invariant-loop-i : goal.invariant-loop-i

@@ -1,7 +1,6 @@
 -- `reports::kind_in` meets its promise: the three tests are those of the definition.
 use mathlib.Core.Path.{sym, ◌∙◌}
 use Rattle.console.specs.Reports.{kind_end, kind_more, kind_none, kind_not}
-use borrow.Author.Rules.{rules}
 use Rattle.console.proofs.reports.kind_in.Goals as goal
 
 -- slice-aggregate-same-bytes : tie.Need-slice-aggregate-same-bytes

@@ -1,7 +1,6 @@
 -- `reports::report_field` meets its promise: the value that was found, and the report that it is.
 use mathlib.Core.Path.{sym, ◌∙◌}
 use Rattle.console.specs.Reports.{report_there, report_refused}
-use borrow.Author.Rules.{rules}
 use Rattle.console.proofs.reports.report_field.Goals as goal
 
 -- slice-aggregate-find-value : tie.Need-slice-aggregate-find-value

@@ -1,7 +1,6 @@
 -- `reports::report_in` meets its promise: the slot before the first comma and the kind after it.
 use native.Mathlib.Omega.{arith}
 use Rattle.console.specs.Reports.{comma_within, report_no_slot, report_no_kind, report_is}
-use borrow.Author.Rules.{rules}
 use Rattle.console.proofs.reports.report_in.Goals as goal
 
 pub returns-in_default : goal.returns-in_default

@@ -1,7 +1,5 @@
 -- `run::begun` meets its promise: the run begins, or the refusal of its plan.
-use borrow.Author.Rules.{rules}
 use mathlib.Core.Path.{refl, sym, ◌∙◌}
-use borrow.Author.Tests.{not-true, not-false}
 use Rattle.console.specs.Turns.{told_is, told_quiet, started_refused, started_runs}
 use Rattle.console.proofs.run.begun.Goals as goal
 

@@ -1,5 +1,4 @@
 -- `run::fresh_console` meets its promise.
-use borrow.Author.Rules.{rules}
 use Rattle.console.proofs.run.fresh_console.Goals as goal
 
 pub returns : goal.returns

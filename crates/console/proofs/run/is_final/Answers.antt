@@ -1,5 +1,4 @@
 -- `run::is_final` meets its promise: the line at fault is complete, or the bytes in hand are enough.
-use borrow.Author.Rules.{rules}
 use Rattle.console.specs.Turns.{final_closed, final_long}
 use Rattle.console.proofs.run.is_final.Goals as goal
 

@@ -1,5 +1,4 @@
 -- `run::line_after` meets its promise.
-use borrow.Author.Rules.{rules}
 use borrow.Author.Tests.{lt-ltb, le-ltb}
 use Rattle.console.proofs.run.line_after.Goals as goal
 

@@ -1,5 +1,4 @@
 -- `run::line_ready` meets its promise: the LF is in hand, or the line is too long.
-use borrow.Author.Rules.{rules}
 use Rattle.console.specs.Turns.{ready_closed, ready_long}
 use Rattle.console.proofs.run.line_ready.Goals as goal
 

@@ -1,13 +1,11 @@
 -- `run::put_job_lines` meets its promise. The invariant: the lines of the jobs passed stand at the start of the output.
 use borrow.Author.Rules.{rules}
 use native.Mathlib.Omega.{arith}
-use Prim.Native.Nat.{◌*◌, ◌-◌, ◌≤◌, min}
+use Prim.Native.Nat.{min}
 use mathlib.Core.Path.{◌≡◌, sym}
-use lib.ListN.{length, take}
+use lib.ListN.{length}
 use Rattle.words.specs.ListLaws.{long}
-use Rattle.console.specs.Run.{job_lines_from}
-use Rattle.console.specs.Pieces.{Piece, longest, piece_none, piece_within, piece_long, piece_room, piece_is}
-use Rattle.console.specs.Console.{run_room}
+use Rattle.console.specs.Pieces.{longest, piece_none, piece_within, piece_long, piece_room, piece_is}
 use Rattle.console.specs.Lists.{jobs_none, jobs_listed, job_written}
 use Rattle.console.proofs.run.put_job_lines.Goals as goal
 

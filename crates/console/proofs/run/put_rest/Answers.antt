@@ -1,5 +1,4 @@
 -- `run::put_rest` meets its promise: the job lines, or the refusal of the line that is not finished.
-use borrow.Author.Rules.{rules}
 use native.Mathlib.Omega.{arith}
 use Rattle.console.specs.Pieces.{piece_within, piece_is}
 use Rattle.console.specs.Turns.{rest_none, rest_bad}

@@ -1,5 +1,6 @@
 -- `run::put_step` meets its promise: the line of the run and the choice.
 use borrow.Author.Rules.{rules}
+use native.Mathlib.Omega.{arith}
 use mathlib.Core.Path.{◌≡◌}
 use Prim.Native.Nat.{ℕ}
 use lib.IntN.{ℤ}
@@ -18,4 +19,4 @@ values-are r choice job hi lo ej eh el = rw (ej, eh, el)
 
 pub returns : goal.returns
 returns c =
-    piece_is (values-are c.args.run c.args.choice _ _ _ c.job_number-job.ensures (to_z-of_z {w = w32} {z = c.args.choice.hi} (search rules)) (to_z-of_z {w = w32} {z = c.args.choice.lo} (search (rules, c.struct_told-1.given.1.1.1)))) c.put_step_line.ensures
+    piece_is (values-are c.args.run c.args.choice _ _ _ c.job_number-job.ensures (to_z-of_z {w = w32} {z = c.args.choice.hi} (search rules)) (to_z-of_z {w = w32} {z = c.args.choice.lo} (record { sfits = omega arith }))) c.put_step_line.ensures

@@ -1,5 +1,4 @@
 -- `run::put_unread` meets its promise: the refusal of the plan, or nothing.
-use borrow.Author.Rules.{rules}
 use native.Mathlib.Omega.{arith}
 use mathlib.Core.Path.{sym, ◌∙◌}
 use Rattle.console.specs.Pieces.{piece_none, piece_within, piece_is}

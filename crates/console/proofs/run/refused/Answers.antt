@@ -1,5 +1,4 @@
 -- `run::refused` meets its promise: the refused line, and a console that has stopped.
-use borrow.Author.Rules.{rules}
 use native.Mathlib.Omega.{arith}
 use mathlib.Core.Path.{refl}
 use Rattle.console.specs.Turns.{told_line}

@@ -1,8 +1,6 @@
 -- `run::stepped` meets its promise: the step line and the next run, or the refusal.
-use borrow.Author.Rules.{rules}
 use native.Mathlib.Omega.{arith}
 use mathlib.Core.Path.{refl, sym, ◌∙◌}
-use borrow.Author.Tests.{not-true, not-false}
 use Rattle.console.specs.Turns.{told_is, told_line, step_refused, step_taken, step_line_lem}
 use Rattle.console.specs.Pieces.{piece_is}
 use Rattle.console.proofs.run.stepped.Goals as goal

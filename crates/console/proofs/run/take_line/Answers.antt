@@ -1,7 +1,5 @@
 -- `run::take_line` meets its promise: the wait for the line, a bad line, or the report on it.
-use borrow.Author.Rules.{rules}
 use mathlib.Core.Path.{refl, sym, ◌∙◌}
-use borrow.Author.Tests.{not-true, not-false}
 use Rattle.console.specs.Turns.{told_is, told_quiet, line_waits, line_bad, line_steps}
 use Rattle.console.proofs.run.take_line.Goals as goal
 

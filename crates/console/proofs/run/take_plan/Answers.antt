@@ -1,5 +1,4 @@
 -- `run::take_plan` meets its promise: the plan that is there, the wait for more of it, or its refusal.
-use borrow.Author.Rules.{rules}
 use mathlib.Core.Path.{refl, sym, ◌∙◌}
 use Rattle.console.specs.Turns.{told_is, told_quiet, plan_begins, plan_waits, plan_refused}
 use Rattle.std.proofs.Common.{ap}

@@ -1,8 +1,7 @@
 -- `can_go_on` meets its contract: 10, then 11.
 use mathlib.Core.Path.{sym, ◌∙◌}
-use borrow.Author.Tests.{not-true, not-false, lt-ltb, le-ltb}
+use borrow.Author.Tests.{lt-ltb, le-ltb}
 use Rattle.executive.specs.CallLaws.{is_incoherent, is_over, is_before}
-use borrow.Author.Rules.{rules}
 use Rattle.executive.proofs.Run.can_go_on.Goals as goal
 
 pub returns-then-not-coherent_in : goal.returns-then-not-coherent_in

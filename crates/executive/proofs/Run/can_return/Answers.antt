@@ -2,7 +2,6 @@
 use mathlib.Core.Path.{ap, ◌∙◌}
 use Rattle.plan.specs.Plan.{jobs_of}
 use Rattle.executive.specs.Step.{every_settled, can_return}
-use borrow.Author.Rules.{rules}
 use Rattle.executive.proofs.Run.can_return.Goals as goal
 
 pub returns : goal.returns

@@ -5,7 +5,6 @@ use Prim.Native.Nat.{◌<◌}
 use Rattle.words.specs.ListLaws.{long}
 use Rattle.executive.specs.Coherent.{coherent}
 use Rattle.executive.specs.Sound.{Sound}
-use borrow.Author.Tests.{not-true, not-false}
 use Rattle.executive.specs.CoherentLaws.{sound}
 use Rattle.executive.specs.CallLaws.{went_on, choice_refused, choice_made}
 use borrow.Author.Rules.{rules}

@@ -2,7 +2,6 @@
 use mathlib.Core.Path.{sym, ap, ◌∙◌}
 use Rattle.executive.specs.declared.Phase.{Phase}
 use Rattle.executive.specs.Choice.{chosen_in, chosen}
-use borrow.Author.Rules.{rules}
 use Rattle.executive.proofs.Run.chosen.Goals as goal
 
 pub returns-in-T : goal.returns-in-T

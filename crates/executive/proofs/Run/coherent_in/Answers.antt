@@ -1,7 +1,7 @@
 -- `coherent_in` meets its contract: the clauses in order, each early return the first that fails.
 use mathlib.Core.Bool.{true}
 use mathlib.Core.Path.{◌≡◌, sym, ap, ◌∙◌}
-use borrow.Author.Tests.{not-true, not-false, le-leb, lt-leb}
+use borrow.Author.Tests.{le-leb, lt-leb}
 use Rattle.answers.specs.Answer.{accepted}
 use Rattle.well_formed.specs.WellFormed.{well_formed}
 use Rattle.well_formed.specs.InOrderLaws.{in_order}

@@ -1,6 +1,5 @@
 -- `expired` meets its contract, by that of the entries that expire.
 use Rattle.executive.specs.Step.{expired}
-use borrow.Author.Rules.{rules}
 use Rattle.executive.proofs.Run.expired.Goals as goal
 
 pub returns : goal.returns

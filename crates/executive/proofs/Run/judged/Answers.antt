@@ -1,6 +1,5 @@
 -- `judged` meets its contract, by that of the phase after.
 use Rattle.executive.specs.Step.{judged}
-use borrow.Author.Rules.{rules}
 use Rattle.executive.proofs.Run.judged.Goals as goal
 
 pub returns : goal.returns

@@ -2,7 +2,6 @@
 use mathlib.Core.Path.{◌≡◌, sym, ap, ◌∙◌}
 use Rattle.intervals.specs.Layout.{layout_of}
 use Rattle.executive.specs.StepLaws.{told_plan, left_plan, after_plan, next_of, countable_listed}
-use borrow.Author.Rules.{rules}
 use Rattle.executive.proofs.Run.next_run.Goals as goal
 use Rattle.executive.proofs.Run.next_run.Goals.{After-expired-left, After-judged-judged, After-reported-told}
 

@@ -5,7 +5,6 @@ use Rattle.executive.specs.Sound.{Listed}
 use Rattle.ready.specs.declared.Slot.{Slot}
 use Rattle.executive.specs.Step.{overrun}
 use Rattle.executive.specs.StepLaws.{overran}
-use borrow.Author.Rules.{rules}
 use Rattle.executive.proofs.Run.overruns.Goals as goal
 use Rattle.executive.proofs.Run.overruns.Goals.{In-Job}
 

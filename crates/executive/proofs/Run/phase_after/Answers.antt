@@ -1,6 +1,5 @@
 -- `phase_after` meets its contract: in each phase its own test decides.
 use Rattle.executive.specs.StepLaws.{after_t, after_h}
-use borrow.Author.Rules.{rules}
 use Rattle.executive.proofs.Run.phase_after.Goals as goal
 
 pub returns-then-overruns : goal.returns-then-overruns

@@ -1,6 +1,5 @@
 -- `ready` meets its contract, by that of the set of its jobs and entries.
 use Rattle.executive.specs.Choice.{members}
-use borrow.Author.Rules.{rules}
 use Rattle.executive.proofs.Run.ready.Goals as goal
 
 pub returns : goal.returns

@@ -1,5 +1,4 @@
 -- `refused` meets its contract: no choice, and the same run.
-use borrow.Author.Rules.{rules}
 use Rattle.executive.proofs.Run.refused.Goals as goal
 
 pub returns : goal.returns

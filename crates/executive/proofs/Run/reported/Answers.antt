@@ -5,7 +5,6 @@ use Rattle.ready.specs.declared.Slot.{Slot}
 use Rattle.executive.specs.Sound.{Countable}
 use Rattle.executive.specs.Step.{reported}
 use Rattle.executive.specs.StepLaws.{ran}
-use borrow.Author.Rules.{rules}
 use Rattle.executive.proofs.Run.reported.Goals as goal
 use Rattle.executive.proofs.Run.reported.Goals.{In-Job}
 

@@ -4,7 +4,7 @@ use mathlib.Core.Path.{◌≡◌, sym, ap, ◌∙◌}
 use Prim.Native.Nat.{◌<◌}
 use Rattle.words.specs.ListLaws.{long}
 use Rattle.executive.specs.Coherent.{coherent}
-use borrow.Author.Tests.{not-true, not-false, eq-eqb, ne_eqb}
+use borrow.Author.Tests.{eq-eqb, ne_eqb}
 use Rattle.executive.specs.Sound.{Sound, Countable}
 use Rattle.executive.specs.declared.Choice.{Choice}
 use Rattle.executive.specs.Choice.{chosen, made_choice}

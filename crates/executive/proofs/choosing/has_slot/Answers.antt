@@ -1,6 +1,5 @@
 -- `has_slot` meets its contract: the two tests in order.
 use borrow.Author.Tests.{le-leb, lt-leb}
-use borrow.Author.Rules.{rules}
 use Rattle.executive.proofs.choosing.has_slot.Goals as goal
 
 pub returns-then-k-lt1 : goal.returns-then-k-lt1

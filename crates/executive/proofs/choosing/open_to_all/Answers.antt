@@ -1,7 +1,6 @@
 -- `open_to_all` meets its contract: the two tests in order.
 use mathlib.Core.Path.{◌≡◌, sym, ap, ◌∙◌}
 use lib.IntN.{ℤ}
-use borrow.Author.Tests.{not-true, not-false}
 use mir.Facts.{to_z-of_z}
 use mir.Syntax.{w32}
 use Rattle.words.specs.Words.{above0, below0}

@@ -1,17 +1,11 @@
 -- `entries_hold` meets its contract. The invariant: the test from here on is the whole test.
 use Prim.Native.Nat.{◌≤◌, ◌-◌}
-use native.Mathlib.Omega.{arith}
 use mathlib.Core.List.{zip_with}
-use mathlib.Core.Path.{◌≡◌, refl, sym, ◌∙◌}
-use borrow.Author.Tests.{not-true, not-false}
-use lib.ListN.{length, take, drop}
+use mathlib.Core.Path.{◌≡◌}
+use lib.ListN.{take, drop}
 use Rattle.words.specs.Words.{every}
-use Rattle.words.specs.ListLaws.{long}
-use Rattle.plan.specs.Limits.{max_jobs}
 use Rattle.entries.specs.Entry.{entry_holds}
 use Rattle.executive.specs.Coherent.{all_hold}
-use Rattle.words.specs.ZipLaws.{every_on, every_not, every_end}
-use borrow.Author.Rules.{rules}
 use Rattle.executive.proofs.coherence.entries_hold.Given as goal
 
 abbrev pub invariant-loop-i : goal.invariant-loop-i

@@ -1,12 +1,10 @@
 -- `every_settled` meets its contract. The invariant: the test from here on is the whole test.
-use Prim.Native.Nat.{◌≤◌, ◌-◌}
+use Prim.Native.Nat.{◌≤◌}
 use native.Mathlib.Omega.{arith}
 use mathlib.Core.Path.{◌≡◌, refl, sym, ◌∙◌}
-use borrow.Author.Tests.{not-true, not-false}
-use lib.ListN.{length, take, drop}
+use lib.ListN.{length}
 use Rattle.words.specs.ListLaws.{long}
 use Rattle.plan.specs.Limits.{max_jobs}
-use Rattle.executive.specs.Step.{every_settled}
 use Rattle.executive.specs.StepLaws.{settled_on, settled_not, settled_end}
 use borrow.Author.Rules.{rules}
 use Rattle.executive.proofs.stepping.every_settled.Goals as goal

@@ -1,14 +1,8 @@
 -- `every_settled` meets its contract. The invariant: the test from here on is the whole test.
 use Prim.Native.Nat.{◌≤◌, ◌-◌}
-use native.Mathlib.Omega.{arith}
-use mathlib.Core.Path.{◌≡◌, refl, sym, ◌∙◌}
-use borrow.Author.Tests.{not-true, not-false}
-use lib.ListN.{length, take, drop}
-use Rattle.words.specs.ListLaws.{long}
-use Rattle.plan.specs.Limits.{max_jobs}
+use mathlib.Core.Path.{◌≡◌}
+use lib.ListN.{take, drop}
 use Rattle.executive.specs.Step.{every_settled}
-use Rattle.executive.specs.StepLaws.{settled_on, settled_not, settled_end}
-use borrow.Author.Rules.{rules}
 use Rattle.executive.proofs.stepping.every_settled.Given as goal
 
 abbrev pub invariant-loop-i : goal.invariant-loop-i

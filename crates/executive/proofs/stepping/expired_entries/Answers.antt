@@ -1,5 +1,5 @@
 -- `expired_entries` meets its contract. The invariant: the entries of the jobs passed have met the border, the others are as they were.
-use Prim.Native.Nat.{ℕ, ◌≤◌, ◌-◌, ◌<◌}
+use Prim.Native.Nat.{ℕ, ◌<◌}
 use native.Mathlib.Omega.{arith}
 use mathlib.Core.Path.{◌≡◌, refl, ap, ◌∙◌}
 use lib.ListN.{length, take}

@@ -1,13 +1,8 @@
 -- `expired_entries` meets its contract. The invariant: the entries of the jobs passed have met the border, the others are as they were.
-use Prim.Native.Nat.{ℕ, ◌≤◌, ◌-◌, ◌<◌}
-use native.Mathlib.Omega.{arith}
-use mathlib.Core.Path.{◌≡◌, refl, ap, ◌∙◌}
-use lib.ListN.{length, take}
-use Rattle.words.specs.ListLaws.{long}
-use Rattle.plan.specs.Limits.{max_jobs}
+use Prim.Native.Nat.{◌≤◌, ◌-◌}
+use mathlib.Core.Path.{◌≡◌}
+use lib.ListN.{take}
 use Rattle.executive.specs.Step.{expired_entries}
-use Rattle.executive.specs.StepLaws.{expired_turn}
-use borrow.Author.Rules.{rules}
 use Rattle.executive.proofs.stepping.expired_entries.Given as goal
 
 abbrev pub invariant-loop-i : goal.invariant-loop-i

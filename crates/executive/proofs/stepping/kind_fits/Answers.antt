@@ -1,6 +1,5 @@
 -- `kind_fits` meets its contract, case by case.
 use Rattle.executive.specs.Step.{kind_fits}
-use borrow.Author.Rules.{rules}
 use Rattle.executive.proofs.stepping.kind_fits.Goals as goal
 
 pub returns-in-End : goal.returns-in-End

@@ -1,6 +1,5 @@
 -- `ran_on` meets its contract, by that of `standing_after`.
 use Rattle.entries.specs.Entry.{ran_on}
-use borrow.Author.Rules.{rules}
 use Rattle.executive.proofs.stepping.ran_on.Goals as goal
 
 pub returns : goal.returns

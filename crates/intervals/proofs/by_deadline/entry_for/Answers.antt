@@ -4,7 +4,6 @@ use native.Mathlib.Omega.{arith}
 use lib.ListN.{get_or}
 use borrow.Author.Tests.{lt-ltb, le-ltb}
 use Rattle.intervals.specs.ByDeadline.{borders, entry_for}
-use borrow.Author.Rules.{rules}
 use Rattle.intervals.proofs.by_deadline.entry_for.Goals as goal
 
 pub returns-then-e-lt-BORDERS : goal.returns-then-e-lt-BORDERS

@@ -1,10 +1,7 @@
 -- `intervals::by_deadline::homes_by` meets its contract. The loop's invariant: the homes of the first i jobs stand, the others have none.
-use Prim.Native.Nat.{◌-◌, ◌≤◌}
 use mathlib.Core.Path.{◌≡◌, refl}
-use mathlib.Core.List.{map}
 use native.Mathlib.Omega.{arith}
-use lib.ListN.{length, take}
-use Rattle.words.specs.Words.{filled}
+use lib.ListN.{length}
 use Rattle.words.specs.ListLaws.{long}
 use Rattle.words.specs.FilledLaws.{filled_map}
 use Rattle.plan.specs.Limits.{max_jobs}

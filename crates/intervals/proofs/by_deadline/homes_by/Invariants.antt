@@ -1,17 +1,12 @@
 -- `intervals::by_deadline::homes_by` meets its contract. The loop's invariant: the homes of the first i jobs stand, the others have none.
 use Prim.Native.Nat.{◌-◌, ◌≤◌}
-use mathlib.Core.Path.{◌≡◌, refl}
+use mathlib.Core.Path.{◌≡◌}
 use mathlib.Core.List.{map}
-use native.Mathlib.Omega.{arith}
-use lib.ListN.{length, take}
+use lib.ListN.{take}
 use Rattle.words.specs.Words.{filled}
-use Rattle.words.specs.ListLaws.{long}
-use Rattle.words.specs.FilledLaws.{filled_map}
 use Rattle.plan.specs.Limits.{max_jobs}
-use Rattle.plan.specs.Plan.{blank_job}
 use Rattle.intervals.specs.Intervals.{max_intervals}
 use Rattle.intervals.specs.ByDeadline.{entry_for}
-use borrow.Author.Rules.{rules}
 use Rattle.intervals.proofs.by_deadline.homes_by.Given as goal
 
 abbrev pub invariant-loop-i : goal.invariant-loop-i

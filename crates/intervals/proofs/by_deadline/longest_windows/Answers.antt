@@ -1,5 +1,5 @@
 -- `intervals::by_deadline::longest_windows` meets its contract. The loop's invariant: the table is that of the jobs from i on.
-use Prim.Native.Nat.{◌-◌, ◌≤◌, ◌<◌}
+use Prim.Native.Nat.{◌-◌, ◌<◌}
 use mathlib.Core.Path.{◌≡◌}
 use mathlib.Core.List.{◌∷◌}
 use native.Mathlib.Omega.{arith}
@@ -8,7 +8,7 @@ use Rattle.words.specs.ListLaws.{long}
 use Rattle.words.specs.BackLaws.{back_start, back_step}
 use Rattle.plan.specs.Limits.{max_jobs}
 use Rattle.plan.specs.Plan.{blank_job}
-use Rattle.intervals.specs.ByDeadline.{borders, DueInTime, LongestWindows}
+use Rattle.intervals.specs.ByDeadline.{borders, DueInTime}
 use Rattle.intervals.specs.ByDeadlineLaws.{due_from, no_windows, window_counted}
 use borrow.Author.Rules.{rules}
 use Rattle.intervals.proofs.by_deadline.longest_windows.Goals as goal

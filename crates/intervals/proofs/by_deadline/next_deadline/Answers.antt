@@ -1,8 +1,6 @@
 -- `intervals::by_deadline::next_deadline` meets its contract. The loop's invariant: no window ends after m and before e.
-use Prim.Native.Nat.{ℕ, ◌+◌, ◌-◌, ◌≤◌, ◌<◌}
 use mathlib.Core.Path.{◌≡◌}
 use native.Mathlib.Omega.{arith}
-use lib.ListN.{get_or}
 use Rattle.words.specs.Cases.{by_less}
 use borrow.Author.Rules.{rules}
 use Rattle.intervals.proofs.by_deadline.next_deadline.Goals as goal

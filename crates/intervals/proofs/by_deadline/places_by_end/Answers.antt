@@ -1,13 +1,12 @@
 -- `intervals::by_deadline::places_by_end` meets its contract. The loop's invariant: the table is that of the intervals from i on.
-use Prim.Native.Nat.{◌-◌, ◌≤◌}
+use Prim.Native.Nat.{◌-◌}
 use mathlib.Core.Path.{◌≡◌}
 use native.Mathlib.Omega.{arith}
-use lib.ListN.{length, take, drop, get_or}
+use lib.ListN.{length, get_or}
 use Rattle.words.specs.ListLaws.{long}
 use Rattle.words.specs.BackLaws.{back_start, back_step}
 use Rattle.intervals.specs.Intervals.{max_intervals}
 use Rattle.intervals.specs.Layout.{blank_interval}
-use Rattle.intervals.specs.ByDeadline.{borders, PlacesFrom}
 use Rattle.intervals.specs.ByDeadlineLaws.{no_places, place_counted, place_beyond}
 use borrow.Author.Rules.{rules}
 use Rattle.intervals.proofs.by_deadline.places_by_end.Goals as goal

@@ -1,15 +1,15 @@
 -- `spares::debt::in_debt` meets its contract. The loop's invariant: the debt is that of the intervals from place i on.
-use Prim.Native.Nat.{◌≤◌, ◌<◌, ◌-◌, ◌*◌}
+use Prim.Native.Nat.{◌≤◌, ◌<◌}
 use mathlib.Core.Path.{◌≡◌}
 use native.Mathlib.Omega.{arith}
 use borrow.Author.Rules.{rules}
-use lib.ListN.{length, length-take, take, drop}
+use lib.ListN.{length, length-take, take}
 use Rattle.words.specs.ListLaws.{long}
 use Rattle.words.specs.PartLaws.{take_min}
 use Rattle.words.specs.BackLaws.{back_start}
 use Rattle.intervals.specs.Intervals.{max_intervals}
 use Rattle.intervals.specs.Layout.{listed, past_in}
-use Rattle.spares.specs.Debt.{max_sum, debt_from, of_sums, in_debt}
+use Rattle.spares.specs.Debt.{debt_from, of_sums, in_debt}
 use Rattle.spares.specs.DebtLaws.{debt_back, debt_small, past_within}
 use Rattle.spares.proofs.debt.in_debt.Goals as goal
 use Rattle.spares.proofs.debt.in_debt.Goals.{After-capped-i, Start}

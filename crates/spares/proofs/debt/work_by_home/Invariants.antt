@@ -1,15 +1,7 @@
 -- `spares::debt::work_by_home` meets its contract. The loop's invariant: a place's sum and the work still to come for it are all its work.
 use Prim.Native.Nat.{◌-◌}
-use mathlib.Core.Path.{◌≡◌, ◌∙◌}
-use mathlib.Core.Logic.{⊎_elim}
-use native.Mathlib.Omega.{arith}
-use lib.ListN.{get_or}
-use mir.Syntax.{w16}
-use mir.Val.{Fits}
 use Rattle.plan.specs.Limits.{max_jobs}
-use Rattle.spares.specs.Debt.{SumsSoFar, with_work}
-use Rattle.spares.specs.RowLaws.{sums_start, sums_more, sums_end, work_counted, work_nowhere}
-use borrow.Author.Rules.{rules}
+use Rattle.spares.specs.Debt.{SumsSoFar}
 use Rattle.spares.proofs.debt.work_by_home.Given as goal
 
 abbrev pub invariant-loop-k : goal.invariant-loop-k

@@ -1,11 +1,10 @@
 -- `work_of_first` meets its contract. The invariant: each array begins with the work of the jobs passed and has 0 beyond.
-use Prim.Native.Nat.{◌≤◌, ◌-◌}
+use Prim.Native.Nat.{◌≤◌}
 use native.Mathlib.Omega.{arith}
 use mathlib.Core.Bool.{Bool, true, false}
 use mathlib.Core.Path.{◌≡◌, refl}
 use lib.ListN.{length, take}
 use lib.Seq.{take_all}
-use Rattle.words.specs.Words.{filled}
 use Rattle.words.specs.ListLaws.{long}
 use Rattle.plan.specs.Limits.{max_jobs}
 use Rattle.spares.specs.Work.{work_each, work_of}

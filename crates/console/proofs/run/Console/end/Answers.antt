@@ -1,5 +1,4 @@
 -- `run::Console::end` meets its promise: with room, what its stage prints at the end of input.
-use borrow.Author.Rules.{rules}
 use native.Mathlib.Omega.{arith}
 use Rattle.console.specs.declared.run.Stage.TheVariants.{Reading, Running, Stopped}
 use Rattle.console.specs.Pieces.{piece_none, piece_within, piece_is}

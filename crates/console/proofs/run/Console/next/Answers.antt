@@ -1,5 +1,4 @@
 -- `run::Console::next` meets its promise: with room, the event of its stage.
-use borrow.Author.Rules.{rules}
 use mathlib.Core.Path.{refl}
 use Rattle.console.specs.declared.run.Stage.TheVariants.{Reading, Running, Stopped}
 use Rattle.console.specs.Turns.{told_is, told_quiet, stage_event, next_no_room, next_told}
