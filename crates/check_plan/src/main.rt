@@ -11,7 +11,7 @@ fn checked(rt: &HostRuntime, text: &[u8]) {
     streams::write_out(rt, &mut rt.stdout(), &out[..printed]);
 }
 
-// What follows the first 65,536 bytes does not matter: a plan's text is shorter, so these decide the output (check-stays in console).
+// What follows the first 65,536 bytes does not matter: a plan's text is shorter, so these decide the output (check_stays in console).
 fn main(rt: HostRuntime) {
     let mut text = [0u8; 65536];
     let came = streams::read_full(&rt, &mut rt.stdin(), &mut text);
