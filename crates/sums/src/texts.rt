@@ -1,10 +1,10 @@
 // Plan texts: the limits, what is not of the form, and a small plan cut at every byte.
-ghost use Rattle.std.specs.Prelude.{◌≤◌, length, IfOk};
+ghost use Rattle.std.specs.Prelude.{◌≤◌, length};
 
 use super::print;
 use std::fs::File;
 use std::io;
-use std::io::Read;
+use std::io::{Eprint, Read};
 use std::rt::Files;
 
 // How the text is answered.
@@ -14,30 +14,36 @@ fn text(rt: &impl Print, name: &[u8], s: &[u8]) -> io::Result<()> {
     print::answer(rt, name, answer)
 }
 
-// The file's bytes from the start of the buffer on, until it is full or the file ends: how many they are.
-fn read_full<R: Read>(input: &mut R, buffer: &mut [u8]) -> io::Result<usize>
-    ensures { IfOk result (λ n. n ≤ length buffer.new) }
+// The file's bytes from the start of the buffer on, until it is full, the file ends or a read fails: how many they are.
+fn read_full<R: Read>(input: &mut R, buffer: &mut [u8]) -> usize
+    ensures { result ≤ length buffer.new }
 {
     let mut n = 0;
     while n < buffer.len() {
-        let more = input.read(&mut buffer[n..])?;
-        if more == 0 {
-            return Ok(n);
+        match input.read(&mut buffer[n..]) {
+            Ok(0) => return n,
+            Ok(more) => n += more,
+            Err(_) => return n,
         }
-        n += more;
     }
-    Ok(n)
+    n
 }
 
-// How a file of data/ is answered.
-fn file(rt: &(impl Files + Print), path: &str) -> io::Result<()> {
-    let mut input = File::open(rt, path)?;
+// How a file of data/ is answered. One that cannot be opened is said on standard error, and the other cases go on.
+fn file(rt: &(impl Files + Print + Eprint), path: &str) -> io::Result<()> {
+    let mut input = match File::open(rt, path) {
+        Ok(input) => input,
+        Err(error) => {
+            let _ = eprintln!(rt; "{path}: {error}");
+            return Ok(());
+        }
+    };
     let mut buffer = [0u8; 65536];
-    let n = read_full(&mut input, &mut buffer)?;
+    let n = read_full(&mut input, &mut buffer);
     text(rt, path.as_bytes(), &buffer[..n])
 }
 
-pub(crate) fn limits(rt: &(impl Files + Print)) -> io::Result<()> {
+pub(crate) fn limits(rt: &(impl Files + Print + Eprint)) -> io::Result<()> {
     text(rt, b"empty text", b"")?;
     text(rt, b"slots=08", b"slots=08\n")?;
     text(rt, b"slots=0", b"slots=0\njobs=1\n")?;
