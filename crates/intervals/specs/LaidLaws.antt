@@ -54,9 +54,6 @@ module _ (longest : List ℕ) (N : ℕ) (js : List Job) (t : Tabled longest N js
       let ds = map (λ j. j.deadline) js in
       omega (arith, length_from js N 0 (rising ds), length_rising ds, length-map js (λ j. j.deadline), t.few_jobs)
 
-  pub window_within : (e : ℕ) → e ≤ N → get_or longest e 0 ≤ e
-  window_within e h = (window_back e js longest (omega (arith, t.few_slots)) t.table).0
-
   -- an interval starts at the larger of the end before and its jobs' least release
   pub starts : (prev e at start : ℕ) → e ≤ N → at ≡ e → start ≡ max prev (e - get_or longest at 0) → start ≡ max prev (least_release e js)
   starts prev e at start h same s = s ∙ ap (max prev) (rw same (window_back e js longest (omega (arith, t.few_slots)) t.table).1)
