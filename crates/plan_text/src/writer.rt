@@ -10,88 +10,51 @@ ghost use Rattle.plan_text.specs.Read.{level_text, job_text, plan_text};
 ghost use Rattle.plan_text.specs.Write.{numbers_fit, write_answer, write_out};
 ghost use Rattle.plan_text.specs.Parts.{numbers_in, four_digits};
 
-use answers::Answer;
+use answers::{Answer, Refusal};
 use lines::writing;
-use plan::{JOBS, Job, Level, Plan, SLOTS};
+use plan::{Job, Level, Plan};
 
 // The largest number of four digits.
 const MOST: u16 = 9999;
 
-// 1 at the first number above 9999 of a job whose five lines start at `line`.
-#[tactic(auto, using(crate::specs::WriterLaws::release_high, crate::specs::WriterLaws::deadline_high, crate::specs::WriterLaws::lo_high, crate::specs::WriterLaws::hi_high, crate::specs::WriterLaws::none_high))]
-fn job_fits(line: u16, j: Job) -> Answer
+// 1 at the line of a number above 9999.
+fn four_digits(line: u16, n: u16) -> Answer
+    ensures { result ≡ four_digits line n }
+{
+    if n > MOST {
+        return Err(Refusal::Form(line));
+    }
+    Ok(())
+}
+
+// The same of the numbers of a job whose five lines start at `line`.
+#[tactic(auto, using(crate::specs::WriterLaws::job_in_turn), unfolding(answers::specs::Answer::accepted))]
+fn job_fits(line: u16, job: &Job) -> Answer
     requires { line ≤ 1000 }
-    ensures { result ≡ first_refusal four_digits line (numbers_in j) }
+    ensures { result ≡ first_refusal four_digits line (numbers_in job.now) }
 {
-    if j.release > MOST {
-        return Answer::Form(line + 1);
-    }
-    if j.deadline > MOST {
-        return Answer::Form(line + 2);
-    }
-    if j.lo > MOST {
-        return Answer::Form(line + 3);
-    }
-    if j.hi > MOST {
-        return Answer::Form(line + 4);
-    }
-    Answer::Accepted
-}
-
-// The same of the first n jobs; the first job's lines start at line 3.
-#[tactic(auto, using(answers::specs::AnswerLaws::passes, answers::specs::AnswerLaws::refuses, crate::specs::WriterLaws::jobs_from, crate::specs::WriterLaws::jobs_end))]
-fn jobs_fit(job: [Job; JOBS], n: usize) -> Answer
-    requires { n ≤ max_jobs }
-    ensures { result ≡ first_refusal four_digits 3 (flat_map numbers_in (take n job)) }
-{
-    let mut line: u16 = 3;
-    let mut i = 0;
-    while i < n {
-        let answer = job_fits(line, job[i]);
-        if !answers::is_accepted(answer) {
-            return answer;
-        }
-        line += 5;
-        i += 1;
-    }
-    Answer::Accepted
-}
-
-// The same of the first n slots of the table, whose lines start at `line`.
-#[tactic(auto, using(answers::specs::AnswerLaws::first_end_lem, crate::specs::WriterLaws::slot_high, crate::specs::WriterLaws::slot_fits))]
-fn slots_fit(table: [u16; SLOTS], n: usize, line: u16) -> Answer
-    requires n_le_max_slots { n ≤ max_slots }
-    requires line_bound { line ≤ 1000 }
-    ensures { result ≡ first_refusal four_digits line (take n table) }
-{
-    let mut at = line;
-    let mut i = 0;
-    while i < n {
-        if table[i] > MOST {
-            return Answer::Form(at);
-        }
-        at += 1;
-        i += 1;
-    }
-    Answer::Accepted
+    four_digits(line + 1, job.release)?;
+    four_digits(line + 2, job.deadline)?;
+    four_digits(line + 3, job.lo)?;
+    four_digits(line + 4, job.hi)
 }
 
 // 1: the first number of the plan above 9999, at its line.
-#[tactic(auto, using(answers::specs::AnswerLaws::passes, answers::specs::AnswerLaws::refuses, crate::specs::WriterLaws::numbers_parts))]
-fn numbers_fit(p: Plan) -> Answer
-    requires slots_le_max_slots { p.slots ≤ max_slots }
-    requires jobs_le_max_jobs { p.jobs ≤ max_jobs }
-    ensures { result ≡ numbers_fit p }
+fn numbers_fit(p: &Plan) -> Answer
+    requires slots_le_max_slots { p.now.slots ≤ max_slots }
+    requires jobs_le_max_jobs { p.now.jobs ≤ max_jobs }
+    ensures { result ≡ numbers_fit p.now }
 {
-    let jobs = plan::wide(p.jobs);
-    let slots = plan::wide(p.slots);
-    let job = p.job;
-    let answer = jobs_fit(job, jobs);
-    if !answers::is_accepted(answer) {
-        return answer;
+    let mut line = 3;
+    for job in &p.job[..usize::from(p.jobs)] {
+        job_fits(line, job)?;
+        line += 5;
     }
-    let table = p.table;
-    slots_fit(table, slots, 3 + 5 * p.jobs)
+    for name in &p.table[..usize::from(p.slots)] {
+        four_digits(line, *name)?;
+        line += 1;
+    }
+    Ok(())
 }
 
 // How many digits a number of the plan has: five at most.
@@ -182,25 +145,16 @@ fn put_plan(out: &mut [u8], p: &Plan) -> usize
 
 // The text of a plan. Checked are 2, 3, 1 and 14; a refusal leaves the output as it was, and so are the bytes past the text.
 #[tactic(auto, using(answers::specs::AnswerLaws::passed, answers::specs::AnswerLaws::failed, crate::specs::WriterLaws::slots_within, crate::specs::WriterLaws::jobs_within, crate::specs::WriterLaws::ends_2, crate::specs::WriterLaws::ends_3, crate::specs::WriterLaws::ends_1, crate::specs::WriterLaws::ends_14, crate::specs::WriterLaws::ends_written), unfolding(plan::specs::Rules::check2, plan::specs::Rules::check3))]
-pub fn write_plan(p: Plan, out: &mut [u8]) -> Answer
+pub fn write_plan(p: Plan, out: &mut [u8]) -> Result<usize, Refusal>
     ensures value { result ≡ write_answer p (length out.old) }
     ensures out_after { out.new ≡ write_out p out.old }
 {
-    let slots = plan::slot_limit(p.slots);
-    if !answers::is_accepted(slots) {
-        return slots;
-    }
-    let jobs = plan::job_limit(p.jobs);
-    if !answers::is_accepted(jobs) {
-        return jobs;
-    }
-    let numbers = numbers_fit(p);
-    if !answers::is_accepted(numbers) {
-        return numbers;
-    }
+    plan::slot_limit(p.slots)?;
+    plan::job_limit(p.jobs)?;
+    numbers_fit(&p)?;
     let len = text_len(&p);
     if out.len() < len {
-        return Answer::NoRoom(len);
+        return Err(Refusal::NoRoom(len));
     }
-    Answer::Written(put_plan(out, &p))
+    Ok(put_plan(out, &p))
 }
