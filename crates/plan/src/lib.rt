@@ -2,16 +2,15 @@
 // The text is in plan_text, the judgement of a whole plan in acceptance.
 #![tactic(auto)]
 
-ghost use Rattle.std.specs.Prelude.{◌≡◌, map, take, length, ◌≤◌, ◌<◌};
+ghost use Rattle.std.specs.Prelude.{◌≡◌, map, ◌<◌};
 ghost use Rattle.words.specs.Words.{every};
-ghost use Rattle.answers.specs.declared.Answer.TheVariants.{SlotLimit, JobLimit};
-ghost use Rattle.answers.specs.Answer.{◌unless◌};
+ghost use Rattle.answers.specs.Answer.{SlotLimit, JobLimit, ◌unless◌};
 ghost use Rattle.plan.specs.Limits.{max_slots, max_jobs, one_to};
 ghost use Rattle.plan.specs.Plan.{blank_job, blank_plan, is_hi, counts_at};
 ghost use Rattle.plan.specs.Rules.{window_holds, budget_holds, windows_hold};
 ghost use Rattle.plan.specs.Counts.{counted_with};
 
-use answers::Answer;
+use answers::{Answer, Refusal};
 
 pub const SLOTS: usize = 512;
 
@@ -89,9 +88,9 @@ pub fn slot_limit(slots: u16) -> Answer
     ensures { result ≡ (SlotLimit unless one_to max_slots slots) }
 {
     if one_to(SLOTS, slots) {
-        Answer::Accepted
+        Ok(())
     } else {
-        Answer::SlotLimit
+        Err(Refusal::SlotLimit)
     }
 }
 
@@ -100,9 +99,9 @@ pub fn job_limit(jobs: u16) -> Answer
     ensures { result ≡ (JobLimit unless one_to max_jobs jobs) }
 {
     if one_to(JOBS, jobs) {
-        Answer::Accepted
+        Ok(())
     } else {
-        Answer::JobLimit
+        Err(Refusal::JobLimit)
     }
 }
 
