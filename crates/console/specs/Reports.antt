@@ -157,5 +157,5 @@ module _ (t : List ℕ) where
   report_within r next e = pick (value_in report_in (bytes "report=") t) refl e
     where
       pick : (o : Option Report) → value_in report_in (bytes "report=") t ≡ o → ReportAt.Got r next ≡ report_then (suc (line_length t)) (report_read o) → next ≤ length t
-      pick (Some x) p e = let q : next ≡ suc (line_length t) = cc in omega (arith, value_within report_in "report=" t 0 0 0 x p)
+      pick (Some x) p e = let q : next ≡ suc (line_length t) = cc in omega (arith, value_within report_in (bytes "report=") t 0 0 0 x p)
       pick None p e = absurd (let z : ◌≡◌ {A = ℕ} 0 1 = cc in omega arith)
