@@ -281,37 +281,27 @@ pub jobs_within : (p : Plan) → accepted (check3 p) ≡ true → p.jobs ≤ max
 unfolding check3
 jobs_within p h = (one_to_lem max_jobs p.jobs (limit_jobs _ h)).1
 
-module _ (p : Plan) (out : List ℕ) where
-  -- the answer and the output are those of the definitions
-  abbrev Ends : Result ℕ Refusal → List ℕ → Type 0
-  Ends r o = (r ≡ write_answer p (length out)) × (o ≡ write_out p out)
-
-  -- a refusal leaves the output as it was
-  refused_ends : (e : Refusal) → write_answer p (length out) ≡ Err e → Ends (Err e) out
-  unfolding write_out accepted
-  refused_ends e w = (sym w, rw w)
-
-  pub ends_2 : (e : Refusal) → check2 p ≡ Err e → Ends (Err e) out
+-- the answer at each way out
+module _ (p : Plan) (room : ℕ) where
+  pub ends_2 : (e : Refusal) → check2 p ≡ Err e → write_answer p room ≡ Err e
   unfolding write_answer accepted
-  ends_2 e f = refused_ends e (rw f)
+  ends_2 e f = rw f
 
   module _ (ok2 : check2 p ≡ Accepted) where
-    pub ends_3 : (e : Refusal) → check3 p ≡ Err e → Ends (Err e) out
+    pub ends_3 : (e : Refusal) → check3 p ≡ Err e → write_answer p room ≡ Err e
     unfolding write_answer accepted
-    ends_3 e f = refused_ends e (rw (ok2, f))
+    ends_3 e f = rw (ok2, f)
 
     module _ (ok3 : check3 p ≡ Accepted) where
-      pub ends_1 : (e : Refusal) → numbers_fit p ≡ Err e → Ends (Err e) out
+      pub ends_1 : (e : Refusal) → numbers_fit p ≡ Err e → write_answer p room ≡ Err e
       unfolding write_answer accepted
-      ends_1 e f = refused_ends e (rw (ok2, ok3, f))
+      ends_1 e f = rw (ok2, ok3, f)
 
       module _ (ok1 : numbers_fit p ≡ Accepted) where
-        pub ends_14 : (len : ℕ) → len ≡ length (plan_text p) → length out < len → Ends (Err (Refusal.NoRoom len)) out
+        pub ends_14 : room < length (plan_text p) → write_answer p room ≡ Err (Refusal.NoRoom (length (plan_text p)))
         unfolding write_answer accepted
-        ends_14 len e h = refused_ends (Refusal.NoRoom len) (rw (ok2, ok3, ok1, lt-leb (length (plan_text p)) (length out) (omega arith)) (ap (λ (n : ℕ). Err (Refusal.NoRoom n)) (sym e)))
+        ends_14 h = rw (ok2, ok3, ok1, lt-leb (length (plan_text p)) room h)
 
-        pub ends_written : (r : ℕ) (o : List ℕ) → length (plan_text p) ≤ length out → r ≡ length (plan_text p) → o ≡ plan_text p ++ drop (length (plan_text p)) out → Ends (Written r) o
-        unfolding write_answer write_out accepted
-        ends_written r o h e f =
-            let w : write_answer p (length out) ≡ Written (length (plan_text p)) = rw (ok2, ok3, ok1, le-leb (length (plan_text p)) (length out) h) in
-            (ap Written e ∙ sym w, f ∙ rw w)
+        pub ends_written : length (plan_text p) ≤ room → write_answer p room ≡ Written (length (plan_text p))
+        unfolding write_answer accepted
+        ends_written h = rw (ok2, ok3, ok1, le-leb (length (plan_text p)) room h)

@@ -144,7 +144,7 @@ fn put_plan(out: &mut [u8], p: &Plan) -> usize
 }
 
 // The text of a plan. Checked are 2, 3, 1 and 14; a refusal leaves the output as it was, and so are the bytes past the text.
-#[tactic(auto, using(answers::specs::AnswerLaws::passed, answers::specs::AnswerLaws::failed, crate::specs::WriterLaws::slots_within, crate::specs::WriterLaws::jobs_within, crate::specs::WriterLaws::ends_2, crate::specs::WriterLaws::ends_3, crate::specs::WriterLaws::ends_1, crate::specs::WriterLaws::ends_14, crate::specs::WriterLaws::ends_written), unfolding(plan::specs::Rules::check2, plan::specs::Rules::check3))]
+#[tactic(auto, using(crate::specs::WriterLaws::slots_within, crate::specs::WriterLaws::jobs_within, crate::specs::WriterLaws::ends_2, crate::specs::WriterLaws::ends_3, crate::specs::WriterLaws::ends_1, crate::specs::WriterLaws::ends_14, crate::specs::WriterLaws::ends_written), unfolding(plan::specs::Rules::check2, plan::specs::Rules::check3, answers::specs::Answer::accepted, crate::specs::Write::write_out))]
 pub fn write_plan(p: Plan, out: &mut [u8]) -> Result<usize, Refusal>
     ensures value { result ≡ write_answer p (length out.old) }
     ensures out_after { out.new ≡ write_out p out.old }
