@@ -204,7 +204,7 @@ module _ {A : Type 0} (print : A → List ℕ) where
   flat_append [] ys = refl
   flat_append (x ∷ xs) ys = ap (λ (r : List ℕ). print x ++ r) (flat_append xs ys) ∙ sym (append_assoc (print x) (flat_map print xs) (flat_map print ys))
 
-  module _ (xs : List A) (z : A) (head out₀ : List ℕ) (room : length (head ++ flat_map print xs) ≤ length out₀) where
+  module _ (xs : List A) (head out₀ : List ℕ) where
     -- the text so far
     abbrev first : ℕ → List ℕ
     first i = head ++ flat_map print (take i xs)
@@ -217,7 +217,7 @@ module _ {A : Type 0} (print : A → List ℕ) where
         → (p ≡ place_after 0 (head ++ flat_map print xs) out₀) × (out ≡ put_fit 0 (head ++ flat_map print xs) out₀)
     many_all p i out h e f = (rw (take_all i xs h) at e, rw (take_all i xs h) at f)
 
-    module _ (p i : ℕ) (out : List ℕ) (h : i < length xs) (e : p ≡ place_after 0 (first i) out₀) (f : out ≡ put_fit 0 (first i) out₀) where
+    module _ (z : A) (room : length (head ++ flat_map print xs) ≤ length out₀) (p i : ℕ) (out : List ℕ) (h : i < length xs) (e : p ≡ place_after 0 (first i) out₀) (f : out ≡ put_fit 0 (first i) out₀) where
       abbrev next : List ℕ
       next = print (get_or xs i z)
 

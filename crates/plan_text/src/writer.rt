@@ -40,6 +40,7 @@ fn job_fits(line: u16, job: &Job) -> Answer
 }
 
 // 1: the first number of the plan above 9999, at its line.
+#[tactic(auto, using(words::specs::ListLaws::long, crate::specs::WriterLaws::numbers_parts, crate::specs::WriterLaws::job_stops, crate::specs::WriterLaws::job_goes_on, crate::specs::WriterLaws::jobs_end, crate::specs::WriterLaws::slot_stops, crate::specs::WriterLaws::slot_goes_on, crate::specs::WriterLaws::slots_end))]
 fn numbers_fit(p: &Plan) -> Answer
     requires slots_le_max_slots { p.now.slots ≤ max_slots }
     requires jobs_le_max_jobs { p.now.jobs ≤ max_jobs }
