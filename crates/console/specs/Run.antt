@@ -1,6 +1,6 @@
 -- The run program: all that it reads to all that it prints.
 use Rattle.std.specs.Prelude.{ℕ, zero, suc, List, [], ◌∷◌, ◌++◌, length, take, drop, if◌then◌else◌, Option, None, Some}
-use Rattle.answers.specs.Answer.{Answer}
+use Rattle.answers.specs.Answer.{Answer, accepted}
 use Rattle.plan.specs.declared.Plan.{Plan}
 use Rattle.words.specs.Words.{◌=?◌}
 use Rattle.lines.specs.Lines.{bytes, comma, digits, same_bytes, number, Cursor, Read, got, refused, field}

@@ -3,7 +3,7 @@ use Rattle.std.specs.Prelude.{ℕ, zero, suc, ◌+◌, ◌-◌, ◌*◌, ◌/◌
 use Prim.Native.Char.{code}
 use Prim.Native.String.{String}
 use Prim.Native.String as Str
-use Rattle.answers.specs.Answer.{Answer, Form}
+use Rattle.answers.specs.Answer.{Answer, Form, accepted, ◌unless◌}
 use Rattle.words.specs.Words.{◌≤?◌, ◌<?◌, ◌=?◌}
 
 -- the bytes of a text in quotes
