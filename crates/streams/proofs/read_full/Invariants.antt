@@ -1,4 +1,4 @@
--- What came so far stays, and each read that brought bytes brought at least one.
+-- What came so far fits in the room.
 use Rattle.std.proofs.Common.{◌≡◌, ◌≤◌, ◌-◌, length}
 use Rattle.streams.proofs.read_full.Given as goal
 
