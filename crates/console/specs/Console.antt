@@ -1,6 +1,6 @@
 -- The run program as a console that is handed its input piece by piece: what it prints for the text in hand, and how it goes on.
 -- That all it prints is the program's whole output, whatever the pieces, is in PiecesLaws.
-use Rattle.std.specs.Prelude.{ℕ, zero, suc, ◌+◌, ◌*◌, Bool, true, false, ◌||◌, List, [], ◌∷◌, ◌++◌, length, drop, if◌then◌else◌}
+use Rattle.std.specs.Prelude.{ℕ, zero, suc, ◌+◌, ◌*◌, Bool, true, false, ◌||◌, List, [], ◌∷◌, ◌++◌, length, drop, if◌then◌else◌, Option, None, Some}
 use Rattle.words.specs.Words.{◌≤?◌, ◌<?◌, ◌=?◌}
 use Rattle.answers.specs.declared.Answer.{Answer}
 use Rattle.answers.specs.declared.Answer.TheVariants.{Form}
@@ -124,11 +124,12 @@ is_stopped Stopped = true
 abbrev pub run_room : ℕ
 run_room = max_jobs * longest
 
-abbrev pub turn_of : Event → Turn
-turn_of e = record { console = e.console; used = e.used; printed = length e.printed; waiting = e.waiting }
+-- a turn for an event; none where the console waits
+abbrev pub turn_of : Event → Option Turn
+turn_of e = if e.waiting then None else Some (record { console = e.console; used = e.used; printed = length e.printed })
 
 -- without room nothing happens: the console waits, and the output stays as it is
-unfoldable pub next_turn : Console → List ℕ → List ℕ → Turn
+unfoldable pub next_turn : Console → List ℕ → List ℕ → Option Turn
 next_turn c s d = turn_of (if run_room ≤? length d then event c s else waits c)
 
 unfoldable pub next_out : Console → List ℕ → List ℕ → List ℕ
