@@ -19,7 +19,7 @@ use Rattle.console.specs.declared.run.Stage.{Stage}
 use Rattle.console.specs.declared.run.Stage.TheVariants.{Reading, Running, Stopped}
 use Rattle.console.specs.declared.run.Console.{Console}
 use Rattle.console.specs.declared.run.Turn.{Turn}
-use Rattle.console.specs.declared.reports.ReportAt.{ReportAt}
+use Rattle.executive.specs.declared.Report.{Report}
 use Rattle.console.specs.Print.{refused_line}
 use Rattle.console.specs.Run.{step_line, job_lines}
 use Rattle.console.specs.Reports.{report_at}
@@ -84,9 +84,9 @@ stepped_event c next stepped =
     then record { printed = step_line c.run; console = record { stage = Running; run = stepped.run; line = line_after c.line }; used = next; waiting = false }
     else refuses c stepped.answer
 
-abbrev pub report_event : Console → ReportAt → Event
-report_event c (ReportAt.Got report next) = stepped_event c next (step c.run report)
-report_event c ReportAt.Bad = refuses c (Form c.line)
+abbrev pub report_event : Console → Option (Report × ℕ) → Event
+report_event c (Some (report, next)) = stepped_event c next (step c.run report)
+report_event c None = refuses c (Form c.line)
 
 unfoldable pub line_event : Console → List ℕ → Event
 line_event c s = if line_ready s then report_event c (report_at s) else waits c

@@ -29,7 +29,6 @@ use Rattle.console.specs.declared.run.Stage.{Stage}
 use Rattle.console.specs.declared.run.Stage.TheVariants.{Reading, Running, Stopped}
 use Rattle.console.specs.declared.run.Console.{Console}
 use Rattle.console.specs.declared.run.Turn.{Turn}
-use Rattle.console.specs.declared.reports.ReportAt.{ReportAt}
 use Rattle.console.specs.Print.{refused_line}
 use Rattle.console.specs.Run.{step_line, job_lines}
 use Rattle.console.specs.Reports.{report_at, report_within}
@@ -122,11 +121,11 @@ module _ (c : Console) (s : List ℕ) where
   line_waits h = rw h
 
   module _ (h : line_ready s ≡ true) where
-    pub line_bad : ReportAt.Bad ≡ report_at s → refuses c (Form c.line) ≡ line_event c s
+    pub line_bad : None ≡ report_at s → refuses c (Form c.line) ≡ line_event c s
     unfolding line_event
     line_bad e = rw (h, ← e)
 
-    pub line_steps : (report : Report) (used : ℕ) → ReportAt.Got report used ≡ report_at s → stepped_event c used (step c.run report) ≡ line_event c s
+    pub line_steps : (report : Report) (used : ℕ) → ◌≡◌ {A = Option (Report × ℕ)} (Some (report, used)) (report_at s) → stepped_event c used (step c.run report) ≡ line_event c s
     unfolding line_event
     line_steps report used e = rw (h, ← e)
 
@@ -180,11 +179,11 @@ module _ (c : Console) (s : List ℕ) where
   unfolding line_event
   line_used = by_test (line_ready s) (λ h. rw h (pick (report_at s) refl)) (λ h. rw h (omega arith))
     where
-      pick : (o : ReportAt) → report_at s ≡ o → (report_event c o).used ≤ length s
-      pick (ReportAt.Got report next) e =
+      pick : (o : Option (Report × ℕ)) → report_at s ≡ o → (report_event c o).used ≤ length s
+      pick (Some (report, next)) e =
           let n : next ≤ length s = report_within s report next (sym e) in
           by_test (accepted (step c.run report).answer) (λ h. rw h n) (λ h. rw h (omega arith))
-      pick ReportAt.Bad e = omega arith
+      pick None e = omega arith
 
   event_used : (event c s).used ≤ length s
   unfolding event

@@ -13,7 +13,7 @@ ghost use Rattle.plan_text.specs.Reader.{plan_prefix};
 ghost use Rattle.plan_text.specs.DecidedLaws.{is_final};
 
 use crate::print::{put_job_line, put_refused_line, put_step_line};
-use crate::reports::{ReportAt, report_field};
+use crate::reports::report_field;
 use answers::Answer;
 use executive::{Choice, Report, Run};
 use plan::Plan;
@@ -194,7 +194,7 @@ fn take_line(c: Console, text: &[u8], out: &mut [u8]) -> Option<Turn>
     if !line_ready(text) {
         return None;
     }
-    let ReportAt::Got(report, used) = report_field(text) else {
+    let Some((report, used)) = report_field(text) else {
         return Some(refused(c, Answer::Form(c.line), out));
     };
     Some(stepped(c, report, used, out))

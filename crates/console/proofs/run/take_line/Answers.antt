@@ -13,4 +13,4 @@ returns-in_default c =
 
 pub returns : goal.returns
 returns c =
-    told_is (line_steps c.args.c c.args.text.now (sym c.line_ready.ensures ∙ c.if-not-line_ready.false) _ _ (sym c.in-Got.is ∙ c.report_field.ensures)) c.stepped.ensures
+    told_is (line_steps c.args.c c.args.text.now (sym c.line_ready.ensures ∙ c.if-not-line_ready.false) _ _ (sym c.in-Some.is ∙ c.report_field.ensures)) c.stepped.ensures
