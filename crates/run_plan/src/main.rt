@@ -19,8 +19,7 @@ const HELD: usize = PLAN + 4096;
 // One event for the text, or nothing where the console waits; what it prints is at the start of the output.
 fn answered(c: Console, text: &[u8], out: &mut [u8]) -> Option<Turn>
     requires { run_room ≤ length out.old }
-    ensures answered { Answered c text.now result out.new }
-    ensures out_len_unchanged { length out.new ≡ length out.old }
+    ensures { Answered c text.now result out.new }
 {
     c.next(text, out)
 }
@@ -35,8 +34,7 @@ fn settled<W: Write>(
     out: &mut [u8],
 ) -> Option<(Console, usize)>
     requires { run_room ≤ length out.old }
-    ensures at_rest { IfSome result (λ r. Rested first text.now r.0 r.1) }
-    ensures out_len_unchanged { length out.new ≡ length out.old }
+    ensures { IfSome result (λ r. Rested first text.now r.0 r.1) }
 {
     let mut c = first;
     let mut done = 0;
@@ -91,8 +89,7 @@ impl Session {
     ) -> Option<()>
         requires standing { Standing self.old.console (take self.old.n self.old.held) }
         requires room { run_room ≤ length out.old }
-        ensures turned { IfSome result (λ _. Turned self.old.console (take self.old.n self.old.held) self.new.console (take self.new.n self.new.held)) }
-        ensures out_len_unchanged { length out.new ≡ length out.old }
+        ensures { IfSome result (λ _. Turned self.old.console (take self.old.n self.old.held) self.new.console (take self.new.n self.new.held)) }
     {
         let more = streams::read_after(rt, input, &mut self.held, self.n).ok()?;
         if more == 0 {

@@ -1,10 +1,7 @@
 -- Before each read the console and the bytes held are those of the session after the pieces read so far.
-use Rattle.std.proofs.Common.{◌≡◌, length, take}
+use Rattle.std.proofs.Common.{take}
 use Rattle.run_plan.specs.Loop.{Standing}
 use Rattle.run_plan.proofs.main.Given as goal
 
 abbrev pub invariant-loop : goal.invariant-loop
-invariant-loop l = record {
-  stands : Standing l.session.console (take l.session.n l.session.held);
-  out_long : length l.out ≡ length l.initial.out;
-}
+invariant-loop l = Standing l.session.console (take l.session.n l.session.held)

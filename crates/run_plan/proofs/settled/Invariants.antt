@@ -1,14 +1,11 @@
 -- Each event brings the console nearer to rest.
-use Rattle.std.proofs.Common.{◌≡◌, length, drop}
+use Rattle.std.proofs.Common.{drop}
 use Rattle.console.specs.SessionLaws.{todo}
 use Rattle.run_plan.specs.LoopLaws.{Nearing}
 use Rattle.run_plan.proofs.settled.Given as goal
 
 abbrev pub invariant-loop-turn : goal.invariant-loop-turn
-invariant-loop-turn g l = record {
-  nearing : Nearing l.fn.first l.text l.c l.done;
-  long : length l.out ≡ length l.fn.out;
-}
+invariant-loop-turn g l = Nearing l.fn.first l.text l.c l.done
 
 abbrev pub decreases-loop-turn : goal.decreases-loop-turn
 decreases-loop-turn g l = todo l.c (drop l.done l.text)

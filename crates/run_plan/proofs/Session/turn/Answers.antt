@@ -5,11 +5,11 @@ use Rattle.run_plan.proofs.Session.turn.Goals as goal
 
 pub invariant_of-self-2 : goal.invariant_of-self-2
 invariant_of-self-2 g c =
-    let s = c.in_ok-console.ensures.at_rest in
+    let s = c.in_ok-console.ensures in
     record { few = moved_few c.read_after.new.held _ _ (search rules) (search rules) _ s.waits (search rules) }
 
-pub returns-clause-turned : goal.returns-clause-turned
-returns-clause-turned g c =
+pub returns : goal.returns
+returns g c =
     let r = c.read_after.ensures in
-    let s = c.in_ok-console.ensures.at_rest in
+    let s = c.in_ok-console.ensures in
     stands_on _ _ _ _ c.read_after.new.held r.stays _ _ _ c.requires.standing s (omega arith) (moved _ _ _ (search rules) (search rules) _ c.copy_within.ensures.after)
