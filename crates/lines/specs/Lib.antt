@@ -9,3 +9,4 @@ pub mod Writing
 pub mod WritingLaws
 pub mod DecidedLaws
 pub mod WriteManyLaws
+pub mod TextLaws
