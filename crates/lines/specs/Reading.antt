@@ -1,8 +1,7 @@
 -- What the reading functions answer, by place: where a value stands in a text, and the number on a line.
 -- The text from place `at` on is `drop at text`; its next line starts at `line_after text at`.
 use Rattle.std.specs.Prelude.{ℕ, ◌+◌, ◌-◌, ◌≤◌, ◌≡◌, ◌&&◌, List, length, take, drop, Option, Some, None, option_map, if◌then◌else◌}
-use Rattle.answers.specs.declared.Answer.{Answer}
-use Rattle.answers.specs.Answer.{accepted}
+use Rattle.answers.specs.Answer.{Answer, accepted}
 use Rattle.words.specs.Words.{◌<?◌, filled}
 use Rattle.lines.specs.Lines.{Cursor, Read, got, refused, line_length, begins, value_in}
 use Rattle.lines.specs.declared.reading.ValueAt.{ValueAt}

@@ -1,9 +1,7 @@
 -- What the reader's functions answer, by place: a job, the jobs, the slots, and the plan at a place of a text.
 use Rattle.std.specs.Prelude.{ℕ, ◌+◌, ◌-◌, ◌*◌, ◌≤◌, ◌≡◌, Bool, List, length, replicate, Result, Ok, Err, if◌then◌else◌}
 use Rattle.words.specs.Words.{◌≤?◌, filled}
-use Rattle.answers.specs.declared.Answer.{Answer}
-use Rattle.answers.specs.declared.Answer.TheVariants.{Accepted, Form}
-use Rattle.answers.specs.Answer.{accepted}
+use Rattle.answers.specs.Answer.{Answer, Accepted, Form, accepted}
 use Rattle.plan.specs.declared.Job.{Job}
 use Rattle.plan.specs.declared.Plan.{Plan}
 use Rattle.plan.specs.Limits.{max_slots, max_jobs}

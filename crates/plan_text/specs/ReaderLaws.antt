@@ -1,9 +1,7 @@
 -- Laws of the reader by place: the five lines of a job, the lines of a plan, each return of the code by its law.
 use Rattle.std.specs.Prelude.{ℕ, ◌+◌, ◌*◌, ◌≤◌, ◌≡◌, refl, false, List, length, Some, None, Result, Ok, Err}
 use Rattle.std.proofs.Common.{one-mul, arith, sym}
-use Rattle.answers.specs.declared.Answer.{Answer}
-use Rattle.answers.specs.declared.Answer.TheVariants.{Form}
-use Rattle.answers.specs.Answer.{accepted}
+use Rattle.answers.specs.Answer.{Answer, Form, accepted}
 use Rattle.plan.specs.declared.Level.{Level}
 use Rattle.plan.specs.declared.Job.{Job}
 use Rattle.lines.specs.Lines.{bytes, number, Read, got, refused, field}
