@@ -6,7 +6,7 @@ use Rattle.std.specs.Prelude.{◌≡◌, Bool, ◌&&◌, ◌||◌, List, [], ◌
 use Rattle.std.proofs.Math.Path.{refl, sym}
 use Rattle.std.proofs.Math.Bool.{true, false}
 use Rattle.std.proofs.lemmas.Bool.{false≢true}
-use Rattle.std.proofs.Math.Option.{Option, none, some}
+use Rattle.std.specs.Prelude.{Option, None, Some}
 use Rattle.std.proofs.Math.Logic.{⊎_elim}
 use Rattle.std.proofs.Math.ListN.{length}
 use borrow.Author.Tests.{lt-ltb, ltb-true, leb-true, eq-eqb, ne_eqb}
@@ -83,8 +83,8 @@ unfolding field
 field_shorter here after r e = pick (value_in report_in (bytes "report=") here.text) e
   where
     pick : (o : Option Report) → or_form o here ≡ got r after → length after.text ≤ length here.text - 1
-    pick (some v) e = omega (arith, ap (λ (c : Cursor). length c.text) (got_same e).1, length-drop (suc (line_length here.text)) here.text)
-    pick none e = unread e
+    pick (Some v) e = omega (arith, ap (λ (c : Cursor). length c.text) (got_same e).1, length-drop (suc (line_length here.text)) here.text)
+    pick None e = unread e
 
 module _ (k : ℕ) (here : Cursor) where
   reports_end : length here.text ≡ 0 → reports_in k here ≡ end

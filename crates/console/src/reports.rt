@@ -5,7 +5,6 @@ ghost use Rattle.console.specs.Reports.{kind_read, report_read, report_at};
 
 use entries::Kind;
 use executive::Report;
-use lines::reading::{Number, ValueAt};
 
 #[derive(Clone, Copy)]
 enum KindName {
@@ -60,7 +59,7 @@ fn report_in(s: &[u8]) -> ReportName
     ensures { result ≡ report_read (report_in s.now) }
 {
     let comma = before_comma(s);
-    let Number::Is(slot) = lines::reading::read_number(lines::reading::value(s, 0, comma)) else {
+    let Some(slot) = lines::reading::read_number(lines::reading::value(s, 0, comma)) else {
         return ReportName::Not;
     };
     let KindName::Is(kind) = kind_in(lines::reading::value(s, comma + 1, s.len())) else {
@@ -73,13 +72,11 @@ fn report_in(s: &[u8]) -> ReportName
 pub(crate) fn report_field(text: &[u8]) -> ReportAt
     ensures { result ≡ report_at text.now }
 {
-    match line_reader::find_value(text, 0, b"report=") {
-        ValueAt::At { start, len, next } => match report_in(line_reader::part_from(
-            text, start, len,
-        )) {
-            ReportName::Is(report) => ReportAt::Got(report, next),
-            ReportName::Not => ReportAt::Bad,
-        },
-        ValueAt::Refused => ReportAt::Bad,
+    let Some(value) = line_reader::find_value(text, 0, b"report=") else {
+        return ReportAt::Bad;
+    };
+    match report_in(line_reader::part_from(text, value.start, value.len)) {
+        ReportName::Is(report) => ReportAt::Got(report, value.next),
+        ReportName::Not => ReportAt::Bad,
     }
 }

@@ -1,6 +1,6 @@
 -- One step of each definition of a line, at an index of the text: what the loops that read lines and digits go by.
 use Rattle.std.proofs.Common.{◌≡◌, sym, List, true, false, ℕ, zero, suc, ◌+◌, ◌-◌, ◌*◌, ◌≤◌, ◌<◌, ◌^◌, add-one, arith, length, get_or, drop, drop_of_length-le, drop-cons, eq-eqb, ne_eqb, le-leb}
-use Rattle.std.proofs.Math.Option.{none, some}
+use Rattle.std.specs.Prelude.{None, Some}
 use Rattle.std.proofs.lemmas.Bool.{lt-leb}
 use Rattle.lines.specs.Lines.{line_length, lines_in, begins, number_from}
 use Rattle.lines.specs.Reading.{line_here}
@@ -83,7 +83,7 @@ module _ (key t : List ℕ) (i p : ℕ) where
 -- ---- the digits
 
 module _ (s : List ℕ) (i n : ℕ) where
-  pub digits_done : length s ≤ i → number_from n (drop i s) ≡ some n
+  pub digits_done : length s ≤ i → number_from n (drop i s) ≡ Some n
   unfolding number_from
   digits_done h = rw (drop_of_length-le s h)
 
@@ -92,11 +92,11 @@ module _ (s : List ℕ) (i n : ℕ) where
     unfolding number_from
     digits_on lo hi = rw (add-one, drop-cons s i 0 h, le-leb _ _ lo, le-leb _ _ hi)
 
-    pub digits_low : get_or s i 0 < 48 → number_from n (drop i s) ≡ none
+    pub digits_low : get_or s i 0 < 48 → number_from n (drop i s) ≡ None
     unfolding number_from
     digits_low lo = rw (drop-cons s i 0 h, lt-leb _ _ lo)
 
-    pub digits_high : 57 < get_or s i 0 → number_from n (drop i s) ≡ none
+    pub digits_high : 57 < get_or s i 0 → number_from n (drop i s) ≡ None
     unfolding number_from
     digits_high hi = let lo : 48 ≤ get_or s i 0 = omega arith in rw (drop-cons s i 0 h, le-leb 48 _ lo, lt-leb _ 57 hi)
 

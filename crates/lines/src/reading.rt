@@ -2,30 +2,14 @@
 // Every function answers every text and every place. The reader that goes from line to line is in line_reader, the lines of a plan in plan_text.
 ghost use Rattle.std.specs.Prelude.{◌≡◌, ◌+◌, ◌≤◌, length, take, drop};
 ghost use Rattle.lines.specs.Lines.{line_length, begins, same_bytes, number, number_from};
-ghost use Rattle.lines.specs.Reading.{line_here, number_read};
+ghost use Rattle.lines.specs.Reading.{line_here};
 
 // Where a line's value stands: its first byte, its length, and the first byte of the next line.
-#[derive(Clone, Copy)]
-pub enum ValueAt {
-    At {
-        start: usize,
-        len: usize,
-        next: usize,
-    },
-    Refused,
-}
-
-#[derive(Clone, Copy)]
-pub enum Number {
-    Is(u16),
-    Not,
-}
-
-// The number on a line, and the first byte of the next line.
-#[derive(Clone, Copy)]
-pub enum NumberAt {
-    Got(u16, usize),
-    Bad,
+#[derive(Clone, Copy, PartialEq, Eq)]
+pub struct ValueAt {
+    pub start: usize,
+    pub len: usize,
+    pub next: usize,
 }
 
 // The place of the LF that closes the line at `at`; the end of the text where none does. A place at or past the end is its own answer.
@@ -117,40 +101,37 @@ fn wide(x: u8) -> u16
 
 // The number that at most four digits make.
 #[tactic(auto, using(crate::proofs::Steps::digits_done, crate::proofs::Steps::digits_on, crate::proofs::Steps::digits_low, crate::proofs::Steps::digits_high, crate::proofs::Steps::room))]
-fn digits_number(s: &[u8]) -> Number
+fn digits_number(s: &[u8]) -> Option<u16>
     requires { length s.now ≤ 4 }
-    ensures { result ≡ number_read (number_from 0 s.now) }
+    ensures { result ≡ number_from 0 s.now }
 {
     let mut n: u16 = 0;
     let mut i = 0;
     while i < s.len() {
         let b = s[i];
-        if b < b'0' {
-            return Number::Not;
-        }
-        if b > b'9' {
-            return Number::Not;
+        if b < b'0' || b > b'9' {
+            return None;
         }
         n = n * 10 + wide(b - b'0');
         i += 1;
     }
-    Number::Is(n)
+    Some(n)
 }
 
 // The number that the value is: 1 to 4 digits and no leading zero.
 #[tactic(auto, using(crate::specs::ReadingLaws::number_long, crate::specs::ReadingLaws::number_none, crate::specs::ReadingLaws::number_zero, crate::specs::ReadingLaws::number_one, crate::specs::ReadingLaws::number_more))]
-pub fn read_number(s: &[u8]) -> Number
-    ensures { result ≡ number_read (number s.now) }
+pub fn read_number(s: &[u8]) -> Option<u16>
+    ensures { result ≡ number s.now }
 {
     if s.len() > 4 {
-        return Number::Not;
+        return None;
     }
     if s.len() == 0 {
-        return Number::Not;
+        return None;
     }
     if s.len() > 1 {
         if s[0] == b'0' {
-            return Number::Not;
+            return None;
         }
     }
     digits_number(s)

@@ -1,5 +1,5 @@
 -- Laws of the plan at a place of a text: each return of the code by its law, and that the rest of the text begins at the place it says.
-use Rattle.std.specs.Prelude.{ℕ, ◌+◌, ◌-◌, ◌*◌, ◌≤◌, ◌<◌, ◌≡◌, Bool, ◌&&◌, List, drop, if◌then◌else◌}
+use Rattle.std.specs.Prelude.{ℕ, ◌+◌, ◌-◌, ◌*◌, ◌≤◌, ◌<◌, ◌≡◌, Bool, ◌&&◌, List, drop, Some, None, if◌then◌else◌}
 use Rattle.std.proofs.Common.{arith, sym, ◌∙◌}
 use Rattle.std.proofs.Math.Path.{refl, ap}
 use Rattle.std.proofs.Math.Bool.{true, false}
@@ -11,10 +11,9 @@ use Rattle.plan.specs.declared.Job.{Job}
 use Rattle.plan.specs.declared.Plan.{Plan}
 use Rattle.plan.specs.Limits.{max_slots, max_jobs, one_to}
 use Rattle.plan.specs.Plan.{blank_job}
-use Rattle.lines.specs.declared.reading.NumberAt.TheVariants.{Got, Bad}
 use Rattle.lines.specs.Lines.{bytes, number, Read, got, refused, Reader, give, onward, must, many, field, nothing_after}
-use Rattle.lines.specs.Reading.{number_at, standing, filled_read, array_read, ArrayHere}
-use Rattle.lines.specs.ReadingLaws.{number_got, number_bad}
+use Rattle.lines.specs.Reading.{field_at, standing, filled_read, array_read, ArrayHere}
+use Rattle.lines.specs.ReadingLaws.{field_got, field_refused}
 use Rattle.lines.specs.ManyLaws.{onward_filled}
 use Rattle.lines.specs.ForwardLaws.{end_self, end_place, Forward, GoesForward, onward_forward, must_forward, many_forward, field_forward}
 use Rattle.plan_text.specs.Read.{level_in, next_job, next_plan, start_of, only_plan, read_plan}
@@ -99,43 +98,43 @@ pub record LineTwo (t : List ℕ) (at l jobs next : ℕ) : Type 0 where
   pub fits : accepted (JobLimit unless one_to max_jobs jobs) ≡ true
 
 module _ (t : List ℕ) (at l : ℕ) (table : List ℕ) where
-  pub no_line_one : Bad ≡ number_at t at (bytes "slots=") → PartsHere t (refused_parts (Form l)) table (next_plan (standing t at l))
+  pub no_line_one : None ≡ field_at number t at (bytes "slots=") → PartsHere t (refused_parts (Form l)) table (next_plan (standing t at l))
   unfolding next_plan
-  no_line_one e = here_refused t (Form l) table _ (form_refuses l) (rw (number_bad "slots=" t at l 0 e))
+  no_line_one e = here_refused t (Form l) table _ (form_refuses l) (rw (field_refused number "slots=" t at l 0 e))
 
-  module _ (slots second : ℕ) (e : Got slots second ≡ number_at t at (bytes "slots="))
+  module _ (slots second : ℕ) (e : Some (slots, second) ≡ field_at number t at (bytes "slots="))
       (limit : Answer) (judged : limit ≡ (SlotLimit unless one_to max_slots slots)) where
     pub over_slot_limit : accepted limit ≡ false → PartsHere t (refused_parts limit) table (next_plan (standing t at l))
     unfolding next_plan
-    over_slot_limit f = here_refused t limit table _ f (rw ((number_got "slots=" t at l (l + 1) (omega arith) slots second e).0, ← judged, f))
+    over_slot_limit f = here_refused t limit table _ f (rw ((field_got number "slots=" t at l (l + 1) (omega arith) (slots, second) e).0, ← judged, f))
 
     pub line_one : accepted limit ≡ true → LineOne t at l slots second
-    line_one f = record { read = (number_got "slots=" t at l (l + 1) (omega arith) slots second e).0; fits = rw judged at f }
+    line_one f = record { read = (field_got number "slots=" t at l (l + 1) (omega arith) (slots, second) e).0; fits = rw judged at f }
 
   module _ (slots second : ℕ) (one : LineOne t at l slots second) where
     pub slots_few : slots ≤ max_slots
     unfolding accepted
     slots_few = keeps_limit max_slots slots SlotLimit _ refl refl one.fits
 
-    pub no_line_two : Bad ≡ number_at t second (bytes "jobs=") → PartsHere t (refused_parts (Form (l + 1))) table (next_plan (standing t at l))
+    pub no_line_two : None ≡ field_at number t second (bytes "jobs=") → PartsHere t (refused_parts (Form (l + 1))) table (next_plan (standing t at l))
     unfolding next_plan
-    no_line_two e = here_refused t (Form (l + 1)) table _ (form_refuses (l + 1)) (rw (one.read, one.fits, number_bad "jobs=" t second (l + 1) 0 e))
+    no_line_two e = here_refused t (Form (l + 1)) table _ (form_refuses (l + 1)) (rw (one.read, one.fits, field_refused number "jobs=" t second (l + 1) 0 e))
 
-    module _ (jobs third : ℕ) (e : Got jobs third ≡ number_at t second (bytes "jobs="))
+    module _ (jobs third : ℕ) (e : Some (jobs, third) ≡ field_at number t second (bytes "jobs="))
         (limit : Answer) (judged : limit ≡ (JobLimit unless one_to max_jobs jobs)) where
       pub over_job_limit : accepted limit ≡ false → PartsHere t (refused_parts limit) table (next_plan (standing t at l))
       unfolding next_plan
-      over_job_limit f = here_refused t limit table _ f (rw (one.read, one.fits, (number_got "jobs=" t second (l + 1) (l + 2) (omega arith) jobs third e).0, ← judged, f))
+      over_job_limit f = here_refused t limit table _ f (rw (one.read, one.fits, (field_got number "jobs=" t second (l + 1) (l + 2) (omega arith) (jobs, third) e).0, ← judged, f))
 
     module _ (jobs third : ℕ) (two : LineTwo t second l jobs third) where
       pub lines_onward : (r : Parts) → PartsHere t r table (next_lines slots jobs (standing t third (l + 2))) → PartsHere t r table (next_plan (standing t at l))
       unfolding next_plan next_lines
       lines_onward r h = record { read = h.read ∙ rw (one.read, one.fits, two.read, two.fits); within = h.within }
 
-pub line_two : (t : List ℕ) (second l jobs third : ℕ) → Got jobs third ≡ number_at t second (bytes "jobs=")
+pub line_two : (t : List ℕ) (second l jobs third : ℕ) → Some (jobs, third) ≡ field_at number t second (bytes "jobs=")
     → (limit : Answer) → limit ≡ (JobLimit unless one_to max_jobs jobs) → accepted limit ≡ true → LineTwo t second l jobs third
 line_two t second l jobs third e limit judged f =
-    let n = number_got "jobs=" t second (l + 1) (l + 2) (omega arith) jobs third e in
+    let n = field_got number "jobs=" t second (l + 1) (l + 2) (omega arith) (jobs, third) e in
     record { read = n.0; within = n.1; fits = rw judged at f }
 
 pub jobs_few : (t : List ℕ) (second l jobs third : ℕ) → LineTwo t second l jobs third → jobs ≤ max_jobs

@@ -1,54 +1,33 @@
--- What the reader's functions answer, by place: the level on a line, a job, the jobs, the slots, and the plan at a place of a text.
-use Rattle.std.specs.Prelude.{ℕ, ◌+◌, ◌-◌, ◌*◌, ◌≤◌, ◌≡◌, Bool, List, length, drop, replicate, if◌then◌else◌}
-use Rattle.std.proofs.Math.Option.{Option, none, some}
+-- What the reader's functions answer, by place: a job, the jobs, the slots, and the plan at a place of a text.
+use Rattle.std.specs.Prelude.{ℕ, ◌+◌, ◌-◌, ◌*◌, ◌≤◌, ◌≡◌, Bool, List, length, replicate, Result, Ok, Err, if◌then◌else◌}
 use Rattle.words.specs.Words.{◌≤?◌, filled}
 use Rattle.answers.specs.Answer.{Answer, Accepted, Form, accepted}
-use Rattle.plan.specs.declared.Level.{Level}
 use Rattle.plan.specs.declared.Job.{Job}
 use Rattle.plan.specs.declared.Plan.{Plan}
 use Rattle.plan.specs.Limits.{max_slots, max_jobs}
 use Rattle.plan.specs.Plan.{blank_job, blank_plan}
-use Rattle.lines.specs.Lines.{bytes, number, Read, got, refused, Reader, give, ◌>>=◌, many, value_in, field}
-use Rattle.lines.specs.Reading.{line_after, standing, filled_read, ArrayHere}
-use Rattle.plan_text.specs.Read.{level_in, next_job, next_plan, start_of}
+use Rattle.lines.specs.Lines.{number, Read, got, refused, Reader, give, ◌>>=◌, many, field}
+use Rattle.lines.specs.Reading.{standing, filled_read, ArrayHere}
+use Rattle.plan_text.specs.Read.{next_job, next_plan, start_of}
 use Rattle.plan_text.specs.declared.PlanRead.{PlanRead}
 use Rattle.plan_text.specs.declared.reader.PlanPrefix.{PlanPrefix}
 use Rattle.plan_text.specs.declared.reader.JobsRead.{JobsRead}
 use Rattle.plan_text.specs.declared.reader.SlotsRead.{SlotsRead}
 use Rattle.plan_text.specs.declared.reader.Parts.{Parts}
-use Rattle.plan_text.specs.declared.reader.LevelName.{LevelName}
-use Rattle.plan_text.specs.declared.reader.LevelName.TheVariants.{Is, Not}
-use Rattle.plan_text.specs.declared.reader.LevelAt.{LevelAt}
-use Rattle.plan_text.specs.declared.reader.JobAt.{JobAt}
-
--- ---- a level
-
-abbrev pub level_read : Option Level → LevelName
-level_read (some level) = Is level
-level_read none = Not
-
--- a level and the place of the line after it
-abbrev pub level_then : ℕ → LevelName → LevelAt
-level_then next (Is level) = LevelAt.Got level next
-level_then next Not = LevelAt.Bad
-
--- the level on the line at `at`
-unfoldable pub level_at : List ℕ → ℕ → LevelAt
-level_at text at = level_then (line_after text at) (level_read (value_in level_in (bytes "level=") (drop at text)))
 
 -- ---- a job
 
 -- what is read where the answer is so, line m after it
-abbrev pub job_read : List ℕ → ℕ → JobAt → Read Job
-job_read text m (JobAt.Got job next) = got job (standing text next m)
-job_read text m (JobAt.Bad l) = refused (Form l)
+abbrev pub job_read : List ℕ → ℕ → Result (Job × ℕ) ℕ → Read Job
+job_read text m (Ok r) = got r.0 (standing text r.1 m)
+job_read text m (Err l) = refused (Form l)
 
-abbrev pub job_next : JobAt → ℕ
-job_next (JobAt.Got job next) = next
-job_next (JobAt.Bad l) = 0
+abbrev pub job_next : Result (Job × ℕ) ℕ → ℕ
+job_next (Ok r) = r.1
+job_next (Err l) = 0
 
 -- the answer is the next job of a reader at `at`, before line l
-pub record JobHere (text : List ℕ) (at l : ℕ) (r : JobAt) : Type 0 where
+pub record JobHere (text : List ℕ) (at l : ℕ) (r : Result (Job × ℕ) ℕ) : Type 0 where
   pub read : job_read text (l + 5) r ≡ next_job (standing text at l)
   pub within : job_next r ≤ length text
 

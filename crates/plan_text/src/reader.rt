@@ -2,39 +2,19 @@
 ghost use Rattle.std.specs.Prelude.{◌≡◌, ◌+◌, ◌*◌, ◌≤◌, length, replicate};
 ghost use Rattle.plan.specs.Limits.{max_slots, max_jobs};
 ghost use Rattle.lines.specs.Lines.{bytes};
-ghost use Rattle.lines.specs.Reading.{number_at, standing};
+ghost use Rattle.lines.specs.Reading.{field_at, standing};
 ghost use Rattle.plan_text.specs.Read.{level_in, next_plan, read_plan};
-ghost use Rattle.plan_text.specs.Reader.{level_read, level_at, JobHere, JobsHere, SlotsHere, next_lines, last_line, numbered, refused_parts, PartsHere, refused_prefix, refused_read, plan_from, plan_prefix};
+ghost use Rattle.plan_text.specs.Reader.{JobHere, JobsHere, SlotsHere, next_lines, last_line, numbered, refused_parts, PartsHere, refused_prefix, refused_read, plan_from, plan_prefix};
 
 use super::PlanRead;
 use answers::{Answer, Refusal};
-use lines::reading::{NumberAt, ValueAt};
+use line_reader::number_field;
 use plan::{Job, Level, Plan};
 
 // The lines of the largest plan, and the last line that has a number.
 const PLAN_LINES: usize = 2 + 5 * plan::JOBS + plan::SLOTS;
 
 const LAST_LINE: usize = 65535;
-
-#[derive(Clone, Copy)]
-enum LevelName {
-    Is(Level),
-    Not,
-}
-
-// The level on a line, and the first byte of the next line.
-#[derive(Clone, Copy)]
-enum LevelAt {
-    Got(Level, usize),
-    Bad,
-}
-
-// The job of five lines and the first byte of the line after them, or the line that is not of the form.
-#[derive(Clone, Copy)]
-enum JobAt {
-    Got(Job, usize),
-    Bad(u16),
-}
 
 // The plan that was read, the first byte after its last line and the number of the line there;
 // or a refusal beside the blank plan, place 0 and line 0.
@@ -73,78 +53,49 @@ struct Parts {
     line: u16,
 }
 
-#[tactic(auto, using(crate::specs::ReaderLaws::level_hi, crate::specs::ReaderLaws::level_lo, crate::specs::ReaderLaws::level_not))]
-fn level_in(s: &[u8]) -> LevelName
-    ensures { result ≡ level_read (level_in s.now) }
+#[tactic(auto, unfolding(crate::specs::Read::level_in))]
+fn level_in(s: &[u8]) -> Option<Level>
+    ensures { result ≡ level_in s.now }
 {
     if lines::reading::same_bytes(s, b"HI") {
-        return LevelName::Is(Level::Hi);
+        return Some(Level::Hi);
     }
     if lines::reading::same_bytes(s, b"LO") {
-        return LevelName::Is(Level::Lo);
+        return Some(Level::Lo);
     }
-    LevelName::Not
+    None
 }
 
-#[tactic(auto, using(crate::specs::ReaderLaws::level_there, crate::specs::ReaderLaws::level_refused))]
-fn level_field(text: &[u8], at: usize) -> LevelAt
-    ensures { result ≡ level_at text.now at }
+// The level on the line at `at`, and the first byte of the next line.
+#[tactic(auto, using(lines::specs::ReadingLaws::field_steps))]
+fn level_field(text: &[u8], at: usize) -> Option<(Level, usize)>
+    ensures { result ≡ field_at level_in text.now at (bytes "level=") }
 {
-    match line_reader::find_value(text, at, b"level=") {
-        ValueAt::At { start, len, next } => match level_in(line_reader::part_from(
-            text, start, len,
-        )) {
-            LevelName::Is(level) => LevelAt::Got(level, next),
-            LevelName::Not => LevelAt::Bad,
-        },
-        ValueAt::Refused => LevelAt::Bad,
-    }
+    let value = line_reader::find_value(text, at, b"level=")?;
+    let level = level_in(line_reader::part_from(text, value.start, value.len))?;
+    Some((level, value.next))
 }
 
-fn release_field(text: &[u8], at: usize) -> NumberAt
-    ensures { result ≡ number_at text.now at (bytes "release=") }
-{
-    line_reader::number_field(text, at, b"release=")
-}
-
-fn deadline_field(text: &[u8], at: usize) -> NumberAt
-    ensures { result ≡ number_at text.now at (bytes "deadline=") }
-{
-    line_reader::number_field(text, at, b"deadline=")
-}
-
-fn lo_field(text: &[u8], at: usize) -> NumberAt
-    ensures { result ≡ number_at text.now at (bytes "lo=") }
-{
-    line_reader::number_field(text, at, b"lo=")
-}
-
-fn hi_field(text: &[u8], at: usize) -> NumberAt
-    ensures { result ≡ number_at text.now at (bytes "hi=") }
-{
-    line_reader::number_field(text, at, b"hi=")
-}
-
-// The job whose first line is at `at` and has the number `line`.
+// The job whose first line is at `at` and has the number `line`, and the first byte after its lines; or the line that is not of the form.
 #[tactic(auto, using(crate::specs::ReaderLaws::job_bad_1, crate::specs::ReaderLaws::job_bad_2, crate::specs::ReaderLaws::job_bad_3, crate::specs::ReaderLaws::job_bad_4, crate::specs::ReaderLaws::job_bad_5, crate::specs::ReaderLaws::job_got))]
-fn read_job(text: &[u8], at: usize, line: u16) -> JobAt
+fn read_job(text: &[u8], at: usize, line: u16) -> Result<(Job, usize), u16>
     requires { line + 5 ≤ last_line }
     ensures { JobHere text.now at line result }
 {
-    let LevelAt::Got(level, a) = level_field(text, at) else {
-        return JobAt::Bad(line);
+    let Some((level, at)) = level_field(text, at) else {
+        return Err(line);
     };
-    let NumberAt::Got(release, b) = release_field(text, a) else {
-        return JobAt::Bad(line + 1);
+    let Some((release, at)) = number_field(text, at, b"release=") else {
+        return Err(line + 1);
     };
-    let NumberAt::Got(deadline, c) = deadline_field(text, b) else {
-        return JobAt::Bad(line + 2);
+    let Some((deadline, at)) = number_field(text, at, b"deadline=") else {
+        return Err(line + 2);
     };
-    let NumberAt::Got(lo, d) = lo_field(text, c) else {
-        return JobAt::Bad(line + 3);
+    let Some((lo, at)) = number_field(text, at, b"lo=") else {
+        return Err(line + 3);
     };
-    let NumberAt::Got(hi, next) = hi_field(text, d) else {
-        return JobAt::Bad(line + 4);
+    let Some((hi, at)) = number_field(text, at, b"hi=") else {
+        return Err(line + 4);
     };
     let job = Job {
         level,
@@ -153,7 +104,7 @@ fn read_job(text: &[u8], at: usize, line: u16) -> JobAt
         lo,
         hi,
     };
-    JobAt::Got(job, next)
+    Ok((job, at))
 }
 
 // The jobs, the first of whose lines is at `at` and has the number `line`.
@@ -171,11 +122,11 @@ fn read_jobs(text: &[u8], at: usize, count: usize, line: u16) -> JobsRead
     let mut i = 0;
     while i < count {
         match read_job(text, next, l) {
-            JobAt::Got(j, after) => {
+            Ok((j, after)) => {
                 job[i] = j;
                 next = after;
             }
-            JobAt::Bad(bad) => {
+            Err(bad) => {
                 return JobsRead {
                     answer: Err(Refusal::Form(bad)),
                     job,
@@ -193,14 +144,8 @@ fn read_jobs(text: &[u8], at: usize, count: usize, line: u16) -> JobsRead
     }
 }
 
-fn slot_field(text: &[u8], at: usize) -> NumberAt
-    ensures { result ≡ number_at text.now at (bytes "slot=") }
-{
-    line_reader::number_field(text, at, b"slot=")
-}
-
 // The slots, the first of whose lines is at `at` and has the number `line`, into the table, which is 0 on entry.
-#[tactic(auto, using(lines::specs::ManyLaws::filling_at_starts, lines::specs::ManyLaws::filling_at_on, lines::specs::ManyLaws::filling_at_stops, lines::specs::ManyLaws::filling_at_ends, crate::specs::ReaderLaws::form_refuses, crate::specs::ReaderLaws::line_each, lines::specs::ReadingLaws::number_got, lines::specs::ReadingLaws::number_bad))]
+#[tactic(auto, using(lines::specs::ManyLaws::filling_at_starts, lines::specs::ManyLaws::filling_at_on, lines::specs::ManyLaws::filling_at_stops, lines::specs::ManyLaws::filling_at_ends, crate::specs::ReaderLaws::form_refuses, crate::specs::ReaderLaws::line_each, lines::specs::ReadingLaws::field_got, lines::specs::ReadingLaws::field_refused))]
 fn read_slots(
     text: &[u8],
     at: usize,
@@ -218,7 +163,7 @@ fn read_slots(
     let mut l = line;
     let mut t = 0;
     while t < count {
-        let NumberAt::Got(entry, after) = slot_field(text, next) else {
+        let Some((entry, after)) = number_field(text, next, b"slot=") else {
             return SlotsRead {
                 answer: Err(Refusal::Form(l)),
                 next: 0,
@@ -286,18 +231,6 @@ fn read_lines(
     }
 }
 
-fn slots_field(text: &[u8], at: usize) -> NumberAt
-    ensures { result ≡ number_at text.now at (bytes "slots=") }
-{
-    line_reader::number_field(text, at, b"slots=")
-}
-
-fn jobs_field(text: &[u8], at: usize) -> NumberAt
-    ensures { result ≡ number_at text.now at (bytes "jobs=") }
-{
-    line_reader::number_field(text, at, b"jobs=")
-}
-
 // The lines of a plan, the first of which is at `at` and has the number `line`; the slots go into the table, which is 0 on entry.
 #[tactic(auto, using(crate::specs::PrefixLaws::no_line_one, crate::specs::PrefixLaws::over_slot_limit, crate::specs::PrefixLaws::line_one, crate::specs::PrefixLaws::slots_few, crate::specs::PrefixLaws::no_line_two, crate::specs::PrefixLaws::over_job_limit, crate::specs::PrefixLaws::line_two, crate::specs::PrefixLaws::jobs_few, crate::specs::PrefixLaws::lines_onward))]
 fn read_parts(text: &[u8], at: usize, line: u16, table: &mut [u16; plan::SLOTS]) -> Parts
@@ -305,14 +238,14 @@ fn read_parts(text: &[u8], at: usize, line: u16, table: &mut [u16; plan::SLOTS])
     requires table_value { table.old ≡ replicate max_slots 0 }
     ensures { PartsHere text.now result table.new (next_plan (standing text.now at line)) }
 {
-    let NumberAt::Got(slots, second) = slots_field(text, at) else {
+    let Some((slots, second)) = number_field(text, at, b"slots=") else {
         return no_parts(Err(Refusal::Form(line)));
     };
     let limit = plan::slot_limit(slots);
     if limit.is_err() {
         return no_parts(limit);
     }
-    let NumberAt::Got(jobs, third) = jobs_field(text, second) else {
+    let Some((jobs, third)) = number_field(text, second, b"jobs=") else {
         return no_parts(Err(Refusal::Form(line + 1)));
     };
     let limit = plan::job_limit(jobs);

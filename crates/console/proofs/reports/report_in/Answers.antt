@@ -17,4 +17,4 @@ returns-in_default-kind_in c =
 
 pub returns : goal.returns
 returns c =
-    report_is _ _ _ c.before_comma-comma.ensures c.value.ensures _ c.read_number.ensures _ c.value-2.ensures _ c.kind_in.ensures _ _ c.in-Is.is c.in-Is-kind_in.is
+    report_is _ _ _ c.before_comma-comma.ensures c.value.ensures _ c.read_number.ensures _ c.value-2.ensures _ c.kind_in.ensures _ _ c.in-Some.is c.in-Is.is

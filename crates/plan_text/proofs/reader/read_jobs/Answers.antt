@@ -9,5 +9,5 @@ use Rattle.plan_text.proofs.reader.read_jobs.Goals as goal
 
 pub loop-i-preserved : goal.loop-i-preserved
 loop-i-preserved c =
-    let j = job_is c.args.text.now _ _ _ c.in-Got.ensures _ _ refl in
+    let j = job_is c.args.text.now _ _ _ c.in-Ok.ensures _ refl in
     filling_at_on next_job 5 max_jobs blank_job _ _ _ _ c.requires.count_le_max_jobs _ _ _ _ c.loop-i.invariant c.loop-i-test.true _ _ j.0 j.1
