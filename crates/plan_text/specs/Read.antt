@@ -1,16 +1,15 @@
 -- The plan text and its reading.
 use Rattle.std.specs.Prelude.{ℕ, if◌then◌else◌}
 use mathlib.Core.List.{List, ◌++◌, flat_map}
-use Rattle.std.proofs.Math.Option.{Option, none, some}
+use Rattle.std.specs.Prelude.{Option, None, Some}
 use Rattle.plan.specs.declared.Level.{Level}
 use Rattle.plan.specs.declared.Level.TheVariants.{Lo, Hi}
 use Rattle.plan.specs.declared.Job.{Job}
 use Rattle.plan.specs.declared.Plan.{Plan}
-use Rattle.answers.specs.declared.Answer.TheVariants.{Accepted, SlotLimit, JobLimit}
+use Rattle.answers.specs.Answer.{Accepted, SlotLimit, JobLimit, ◌unless◌}
 use Rattle.words.specs.Words.{filled}
 use Rattle.plan.specs.Limits.{max_slots, max_jobs, one_to}
 use Rattle.plan.specs.Plan.{jobs_of, slots_of, blank_job, blank_plan}
-use Rattle.answers.specs.Answer.{◌unless◌}
 use Rattle.plan_text.specs.declared.PlanRead.{PlanRead}
 use Rattle.lines.specs.Lines.{bytes, line, number_line, same_bytes, number, Cursor, Read, got, refused, Reader, give, ◌>>=◌, must, many, field, nothing_after}
 
@@ -41,9 +40,9 @@ plan_text p =
 -- a level is HI or LO
 unfoldable pub level_in : List ℕ → Option Level
 level_in s =
-    if same_bytes s (bytes "HI") then some Hi
-    else if same_bytes s (bytes "LO") then some Lo
-    else none
+    if same_bytes s (bytes "HI") then Some Hi
+    else if same_bytes s (bytes "LO") then Some Lo
+    else None
 
 -- the five lines of a job
 unfoldable pub next_job : Reader Job
