@@ -103,9 +103,9 @@ fn check6(p: &Plan) -> Result<Scanned, Refusal>
 }
 
 // 7: the first of the jobs whose table slots are not lo in number.
-fn check7(jobs: &[Job], counts: &[u16; plan::JOBS]) -> Answer
+fn check7(jobs: &[Job], counts: [u16; plan::JOBS]) -> Answer
     requires { length jobs.now ≤ max_jobs }
-    ensures { result ≡ counts_from counts.now jobs.now }
+    ensures { result ≡ counts_from counts jobs.now }
 {
     refused(
         jobs.iter()
@@ -134,6 +134,6 @@ pub fn well_formed(p: Plan) -> Answer
     check4(jobs, p.slots)?;
     check5(jobs, p.slots)?;
     let scanned = check6(&p)?;
-    check7(jobs, &scanned.counts)?;
+    check7(jobs, scanned.counts)?;
     check17(&scanned.runs[..n])
 }

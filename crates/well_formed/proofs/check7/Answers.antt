@@ -25,7 +25,7 @@ beside counts i (j ∷ jobs) l =
 
 pub returns : goal.returns
 returns c =
-    told_at Refusal.TableCount (λ (x : Job × ℕ). x.1 =? x.0.lo) _ (λ i e k. search rules) (zip c.args.jobs.now c.args.counts.now) c.position.result _
-    (position_from_yields_List (λ (x : Job × ℕ). not (x.1 =? x.0.lo)) c.position.new.self _ c.position.result c.position.ensures.ran (YieldsList-from_zip (YieldsList-at c.zip.ensures.first (YieldsList-from_slice c.args.jobs.now cc)) (YieldsList-at c.zip.ensures.second (YieldsList-from_slice c.args.counts.now cc))) (λ x b q k. search (rules, tests)))
+    told_at Refusal.TableCount (λ (x : Job × ℕ). x.1 =? x.0.lo) _ (λ i e k. search rules) (zip c.args.jobs.now c.args.counts) c.position.result _
+    (position_from_yields_List (λ (x : Job × ℕ). not (x.1 =? x.0.lo)) c.position.new.self _ c.position.result c.position.ensures.ran (YieldsList-from_zip (YieldsList-at c.zip.ensures.first (YieldsList-from_slice c.args.jobs.now cc)) (YieldsList-at c.zip.ensures.second (YieldsList-from_slice c.args.counts cc))) (λ x b q k. search (rules, tests)))
     c.refused.ensures
-    ∙ beside c.args.counts.now 0 c.args.jobs.now (let l : length c.args.counts.now ≡ 32 = search rules in omega arith)
+    ∙ beside c.args.counts 0 c.args.jobs.now (let l : length c.args.counts ≡ 32 = search rules in omega arith)
