@@ -1,11 +1,10 @@
 // The run program's console: a value that is handed the input piece by piece and says what is printed. Reading and writing are in run_plan.
-ghost use Rattle.std.specs.Prelude.{◌≡◌, ◌+◌, ◌≤◌, min, length, Some, IfSome};
+ghost use Rattle.std.specs.Prelude.{◌≡◌, ◌≤◌, length, Some, IfSome};
 ghost use Rattle.plan.specs.Limits.{max_jobs};
 ghost use Rattle.executive.specs.Run.{start};
 ghost use Rattle.executive.specs.Step.{step};
-ghost use Rattle.console.specs.Run.{job_number, job_lines};
-ghost use Rattle.console.specs.Printed.{step_line_from};
-ghost use Rattle.console.specs.Pieces.{Piece, longest, CountsIn};
+ghost use Rattle.console.specs.Run.{job_lines_from};
+ghost use Rattle.console.specs.Pieces.{Piece, CountsIn};
 ghost use Rattle.console.specs.Console.{fresh_console, refuses, started_event, plan_event, line_ready, line_after, stepped_event, line_event, unread_output, end_in, is_stopped, run_room, turn_of, next_turn, next_out, end_length, end_written};
 ghost use Rattle.console.specs.Turns.{Told};
 ghost use Rattle.console.specs.declared.run.Stage.TheVariants.{Running};
@@ -15,9 +14,9 @@ ghost use Rattle.plan_text.specs.DecidedLaws.{is_final};
 use crate::print::{put_job_line, put_refused_line, put_step_line};
 use crate::reports::report_field;
 use answers::Answer;
-use executive::{Choice, Report, Run};
-use plan::Plan;
-use ready::Slot;
+use entries::Entry;
+use executive::{Report, Run};
+use plan::{JOBS, Plan};
 
 // The room that one event's lines need at most: a line of each job.
 pub const RUN_ROOM: usize = 4096;
@@ -63,8 +62,7 @@ pub fn fresh_console() -> Console
 }
 
 // A refusal is printed, and the console stops.
-fn refused(c: Console, answer: Answer, out: &mut [u8]) -> Turn
-    requires { run_room ≤ length out.old }
+fn refused(c: Console, answer: Answer, out: &mut [u8; RUN_ROOM]) -> Turn
     ensures { Told (refuses c answer) out.old (Some result) out.new }
 {
     Turn {
@@ -78,8 +76,7 @@ fn refused(c: Console, answer: Answer, out: &mut [u8]) -> Turn
 }
 
 // The run of the plan that was read begins.
-fn begun(c: Console, plan: Plan, used: usize, line: u16, out: &mut [u8]) -> Turn
-    requires { run_room ≤ length out.old }
+fn begun(c: Console, plan: Plan, used: usize, line: u16, out: &mut [u8; RUN_ROOM]) -> Turn
     ensures { Told (started_event c used line (start plan)) out.old (Some result) out.new }
 {
     let started = executive::start(plan);
@@ -109,8 +106,7 @@ fn is_final(text: &[u8], answer: Answer) -> bool
 }
 
 // The plan at the start of the text, once it is there or can no longer be completed; until then None.
-fn take_plan(c: Console, text: &[u8], out: &mut [u8]) -> Option<Turn>
-    requires { run_room ≤ length out.old }
+fn take_plan(c: Console, text: &[u8], out: &mut [u8; RUN_ROOM]) -> Option<Turn>
     ensures { Told (plan_event c text.now) out.old result out.new }
 {
     let prefix = plan_text::reader::plan_prefix(text);
@@ -140,41 +136,15 @@ fn line_after(line: u16) -> u16
     if line < 65535 { line + 1 } else { line }
 }
 
-fn job_number(slot: Slot) -> u16
-    ensures { result ≡ job_number slot }
-{
-    match slot {
-        Slot::Job(k) => k,
-        Slot::Idle => 0,
-    }
-}
-
-// The step line: what was chosen, the phase and the current spares before the slot. `run` is the run before it.
-fn put_step(out: &mut [u8], run: Run, choice: Choice) -> usize
-    requires { run_room ≤ length out.old }
-    ensures { Piece longest 0 (step_line_from run choice) out.old result out.new }
-{
-    put_step_line(
-        out,
-        0,
-        run.t,
-        job_number(choice.slot),
-        run.phase,
-        choice.hi,
-        choice.lo,
-    )
-}
-
 // A report is applied: the step line and the next run, or a refusal.
-fn stepped(c: Console, report: Report, used: usize, out: &mut [u8]) -> Turn
-    requires { run_room ≤ length out.old }
+fn stepped(c: Console, report: Report, used: usize, out: &mut [u8; RUN_ROOM]) -> Turn
     ensures { Told (stepped_event c used (step c.run report)) out.old (Some result) out.new }
 {
     let after = c.run.step(report);
     if !answers::is_accepted(after.answer) {
         return refused(c, after.answer, out);
     }
-    let printed = put_step(out, c.run, after.choice);
+    let printed = put_step_line(out, 0, &c.run, &after.choice);
     Turn {
         console: Console {
             stage: Stage::Running,
@@ -187,8 +157,7 @@ fn stepped(c: Console, report: Report, used: usize, out: &mut [u8]) -> Turn
 }
 
 // The report line at the start of the text, once it can be judged; until then None.
-fn take_line(c: Console, text: &[u8], out: &mut [u8]) -> Option<Turn>
-    requires { run_room ≤ length out.old }
+fn take_line(c: Console, text: &[u8], out: &mut [u8; RUN_ROOM]) -> Option<Turn>
     ensures { Told (line_event c text.now) out.old result out.new }
 {
     if !line_ready(text) {
@@ -200,33 +169,20 @@ fn take_line(c: Console, text: &[u8], out: &mut [u8]) -> Option<Turn>
     Some(stepped(c, report, used, out))
 }
 
-// How many jobs the run has, for any plan record.
-fn listed_jobs(jobs: u16) -> usize
-    ensures { result ≡ min jobs max_jobs }
-{
-    let n = jobs as usize;
-    if n <= plan::JOBS { n } else { plan::JOBS }
-}
-
 // A line for each job, in order.
-fn put_job_lines(out: &mut [u8], run: Run) -> usize
-    requires { run_room ≤ length out.old }
-    ensures { Piece run_room 0 (job_lines run) out.old result out.new }
+fn put_job_lines(out: &mut [u8; RUN_ROOM], entries: &[Entry]) -> usize
+    requires { length entries.now ≤ max_jobs }
+    ensures { Piece run_room 0 (job_lines_from 1 entries.now) out.old result out.new }
 {
-    let count = listed_jobs(run.plan.jobs);
-    let entry = run.entry;
     let mut at = 0;
-    let mut i = 0;
-    while i < count {
-        at = put_job_line(out, at, 1 + i, entry[i]);
-        i += 1;
+    for (i, e) in entries.iter().enumerate() {
+        at = put_job_line(out, at, i + 1, *e);
     }
     at
 }
 
 // The refusal of a plan that the input ends in; a plan that is complete has none.
-fn put_unread(out: &mut [u8], text: &[u8]) -> usize
-    requires { run_room ≤ length out.old }
+fn put_unread(out: &mut [u8; RUN_ROOM], text: &[u8]) -> usize
     ensures { Piece run_room 0 (unread_output (plan_prefix text.now)) out.old result out.new }
 {
     let prefix = plan_text::reader::plan_prefix(text);
@@ -237,12 +193,12 @@ fn put_unread(out: &mut [u8], text: &[u8]) -> usize
 }
 
 // The job lines; a line that is not finished is bad.
-fn put_rest(out: &mut [u8], text: &[u8], c: Console) -> usize
-    requires { run_room ≤ length out.old }
+fn put_rest(out: &mut [u8; RUN_ROOM], text: &[u8], c: Console) -> usize
     ensures { Piece run_room 0 (end_in Running c text.now) out.old result out.new }
 {
     if text.len() == 0 {
-        return put_job_lines(out, c.run);
+        let jobs = JOBS.min(usize::from(c.run.plan.jobs));
+        return put_job_lines(out, &c.run.entry[..jobs]);
     }
     put_refused_line(out, 0, Answer::Form(c.line))
 }
@@ -262,9 +218,7 @@ impl Console {
         ensures out_after { out.new ≡ next_out self text.now out.old }
         ensures used_in_bounds { IfSome result (λ turn. (turn.used ≤ length text.now) × CountsIn turn.printed out.new) }
     {
-        if out.len() < RUN_ROOM {
-            return None;
-        }
+        let out = out.first_chunk_mut::<RUN_ROOM>()?;
         match self.stage {
             Stage::Reading => take_plan(self, text, out),
             Stage::Running => take_line(self, text, out),
@@ -278,9 +232,9 @@ impl Console {
         ensures out_after { out.new ≡ end_written self text.now out.old }
         ensures counts_in { CountsIn result out.new }
     {
-        if out.len() < RUN_ROOM {
+        let Some(out) = out.first_chunk_mut::<RUN_ROOM>() else {
             return 0;
-        }
+        };
         match self.stage {
             Stage::Reading => put_unread(out, text),
             Stage::Running => put_rest(out, text, self),
