@@ -98,7 +98,3 @@ chunk_put n w d e k few =
     ∙ append_assoc w (drop (length w) e) (drop n d)
     ∙ ap (λ (x : List ℕ). w ++ x) (sym (drop-append-le (length w) e (drop n d) (omega arith)) ∙ ap (drop (length w)) whole)
     ∙ sym (put_start w d)
-
--- a piece written at the start, with room for it
-pub piece_counts : {m r : ℕ} {w d e : List ℕ} → Piece m 0 w d r e → m ≤ length d → CountsIn r e
-piece_counts {m} {r} {w} {d} {e} p h = counts_in_lem r e (omega (arith, p.place, p.short, piece_long p (omega arith)))
