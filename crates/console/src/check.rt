@@ -27,8 +27,8 @@ fn put_interval_lines(out: &mut [u8; CHECK_ROOM], a: Analysis) -> usize
 fn put_analysis(out: &mut [u8; CHECK_ROOM], a: Analysis) -> usize
     ensures { Piece check_room 0 (analysis_lines a) out.old result out.new }
 {
-    if !answers::is_accepted(a.answer) {
-        return put_refused_line(out, 0, a.answer);
+    if let Err(refusal) = a.answer {
+        return put_refused_line(out, 0, refusal);
     }
     let end = put_interval_lines(out, a);
     put_key(out, end, b"answer=0\n")
@@ -44,8 +44,8 @@ pub fn check_output(text: &[u8], out: &mut [u8]) -> usize
         return 0;
     };
     let read = plan_text::reader::read_plan(text);
-    if !answers::is_accepted(read.answer) {
-        return put_refused_line(out, 0, read.answer);
+    if let Err(refusal) = read.answer {
+        return put_refused_line(out, 0, refusal);
     }
     put_analysis(out, acceptance::analysis_of(read.plan))
 }

@@ -1,12 +1,12 @@
 // Lines printed: each is written whole at a place of an output that has room for a line. What is printed when is in check.rt and run.rt.
-ghost use Rattle.std.specs.Prelude.{◌≡◌, [], ◌∷◌, ◌++◌, ◌+◌, ◌≤◌, length};
+ghost use Rattle.std.specs.Prelude.{◌≡◌, [], ◌∷◌, ◌++◌, ◌+◌, ◌≤◌, length, Err};
 ghost use Rattle.lines.specs.Lines.{digits};
 ghost use Rattle.console.specs.Print.{signed, refused_line};
 ghost use Rattle.console.specs.Run.{job_number, phase_letter, standing_letter};
 ghost use Rattle.console.specs.Pieces.{Piece, longest};
 ghost use Rattle.console.specs.Printed.{interval_line, step_line_from, job_line};
 
-use answers::Answer;
+use answers::Refusal;
 use entries::{Entry, Standing};
 use executive::{Choice, Phase, Run};
 use intervals::Interval;
@@ -129,18 +129,18 @@ pub(crate) fn put_job_line(out: &mut [u8], at: usize, number: usize, e: Entry) -
 }
 
 // `refused=number,place`, for 8 both places
-pub(crate) fn put_refused_line(out: &mut [u8], at: usize, answer: Answer) -> usize
+pub(crate) fn put_refused_line(out: &mut [u8], at: usize, refusal: Refusal) -> usize
     requires { at + longest ≤ length out.old }
-    ensures { Piece longest at (refused_line answer) out.old result out.new }
+    ensures { Piece longest at (refused_line (Err refusal)) out.old result out.new }
 {
     let start = put_key(out, at, b"refused=");
-    let number = answers::number_of(answer);
+    let number = answers::number_of(Err(refusal));
     let first = put_value(out, start, usize::from(number), b',');
-    let place = answers::first_place(answer);
+    let place = answers::first_place(Err(refusal));
     if number != 8 {
         return put_value(out, first, place, b'\n');
     }
-    let other = answers::second_place(answer);
+    let other = answers::second_place(Err(refusal));
     let second = put_value(out, first, place, b',');
     put_value(out, second, other, b'\n')
 }

@@ -1,5 +1,5 @@
 // The run program's console: a value that is handed the input piece by piece and says what is printed. Reading and writing are in run_plan.
-ghost use Rattle.std.specs.Prelude.{◌≡◌, ◌≤◌, length, Some, IfSome};
+ghost use Rattle.std.specs.Prelude.{◌≡◌, ◌≤◌, length, Some, IfSome, Err};
 ghost use Rattle.plan.specs.Limits.{max_jobs};
 ghost use Rattle.executive.specs.Run.{start};
 ghost use Rattle.executive.specs.Step.{step};
@@ -13,7 +13,7 @@ ghost use Rattle.plan_text.specs.DecidedLaws.{is_final};
 
 use crate::print::{put_job_line, put_refused_line, put_step_line};
 use crate::reports::report_field;
-use answers::Answer;
+use answers::Refusal;
 use entries::Entry;
 use executive::{Report, Run};
 use plan::{JOBS, Plan};
@@ -62,8 +62,8 @@ pub fn fresh_console() -> Console
 }
 
 // A refusal is printed, and the console stops.
-fn refused(c: Console, answer: Answer, out: &mut [u8; RUN_ROOM]) -> Turn
-    ensures { Told (refuses c answer) out.old (Some result) out.new }
+fn refused(c: Console, refusal: Refusal, out: &mut [u8; RUN_ROOM]) -> Turn
+    ensures { Told (refuses c (Err refusal)) out.old (Some result) out.new }
 {
     Turn {
         console: Console {
@@ -71,7 +71,7 @@ fn refused(c: Console, answer: Answer, out: &mut [u8; RUN_ROOM]) -> Turn
             ..c
         },
         used: 0,
-        printed: put_refused_line(out, 0, answer),
+        printed: put_refused_line(out, 0, refusal),
     }
 }
 
@@ -80,8 +80,8 @@ fn begun(c: Console, plan: Plan, used: usize, line: u16, out: &mut [u8; RUN_ROOM
     ensures { Told (started_event c used line (start plan)) out.old (Some result) out.new }
 {
     let started = executive::start(plan);
-    if !answers::is_accepted(started.answer) {
-        return refused(c, started.answer, out);
+    if let Err(refusal) = started.answer {
+        return refused(c, refusal, out);
     }
     Turn {
         console: Console {
@@ -95,14 +95,10 @@ fn begun(c: Console, plan: Plan, used: usize, line: u16, out: &mut [u8; RUN_ROOM
 }
 
 // More text would not change this refusal: the line at fault is complete, or the bytes in hand are enough.
-fn is_final(text: &[u8], answer: Answer) -> bool
-    ensures { result ≡ is_final text.now answer }
+fn is_final(text: &[u8], refusal: Refusal) -> bool
+    ensures { result ≡ is_final text.now (Err refusal) }
 {
-    let line = answers::first_place(answer);
-    if lines::counting::has_lines(text, line) {
-        return true;
-    }
-    ENOUGH <= text.len()
+    lines::counting::has_lines(text, answers::first_place(Err(refusal))) || ENOUGH <= text.len()
 }
 
 // The plan at the start of the text, once it is there or can no longer be completed; until then None.
@@ -110,23 +106,18 @@ fn take_plan(c: Console, text: &[u8], out: &mut [u8; RUN_ROOM]) -> Option<Turn>
     ensures { Told (plan_event c text.now) out.old result out.new }
 {
     let prefix = plan_text::reader::plan_prefix(text);
-    if answers::is_accepted(prefix.answer) {
-        return Some(begun(c, prefix.plan, prefix.next, prefix.line, out));
+    match prefix.answer {
+        Ok(()) => Some(begun(c, prefix.plan, prefix.next, prefix.line, out)),
+        Err(refusal) if is_final(text, refusal) => Some(refused(c, refusal, out)),
+        Err(_) => None,
     }
-    if !is_final(text, prefix.answer) {
-        return None;
-    }
-    Some(refused(c, prefix.answer, out))
 }
 
 // The first line's LF is in hand, or the line is too long to be of the form.
 fn line_ready(text: &[u8]) -> bool
     ensures { result ≡ line_ready text.now }
 {
-    if lines::reading::line_end(text, 0) < text.len() {
-        return true;
-    }
-    LONGEST_REPORT <= text.len()
+    lines::reading::line_end(text, 0) < text.len() || LONGEST_REPORT <= text.len()
 }
 
 // The number of the line after this one.
@@ -141,8 +132,8 @@ fn stepped(c: Console, report: Report, used: usize, out: &mut [u8; RUN_ROOM]) ->
     ensures { Told (stepped_event c used (step c.run report)) out.old (Some result) out.new }
 {
     let after = c.run.step(report);
-    if !answers::is_accepted(after.answer) {
-        return refused(c, after.answer, out);
+    if let Err(refusal) = after.answer {
+        return refused(c, refusal, out);
     }
     let printed = put_step_line(out, 0, &c.run, &after.choice);
     Turn {
@@ -164,7 +155,7 @@ fn take_line(c: Console, text: &[u8], out: &mut [u8; RUN_ROOM]) -> Option<Turn>
         return None;
     }
     let Some((report, used)) = report_field(text) else {
-        return Some(refused(c, Answer::Form(c.line), out));
+        return Some(refused(c, Refusal::Form(c.line), out));
     };
     Some(stepped(c, report, used, out))
 }
@@ -185,11 +176,10 @@ fn put_job_lines(out: &mut [u8; RUN_ROOM], entries: &[Entry]) -> usize
 fn put_unread(out: &mut [u8; RUN_ROOM], text: &[u8]) -> usize
     ensures { Piece run_room 0 (unread_output (plan_prefix text.now)) out.old result out.new }
 {
-    let prefix = plan_text::reader::plan_prefix(text);
-    if answers::is_accepted(prefix.answer) {
-        return 0;
+    match plan_text::reader::plan_prefix(text).answer {
+        Ok(()) => 0,
+        Err(refusal) => put_refused_line(out, 0, refusal),
     }
-    put_refused_line(out, 0, prefix.answer)
 }
 
 // The job lines; a line that is not finished is bad.
@@ -200,7 +190,7 @@ fn put_rest(out: &mut [u8; RUN_ROOM], text: &[u8], c: Console) -> usize
         let jobs = JOBS.min(usize::from(c.run.plan.jobs));
         return put_job_lines(out, &c.run.entry[..jobs]);
     }
-    put_refused_line(out, 0, Answer::Form(c.line))
+    put_refused_line(out, 0, Refusal::Form(c.line))
 }
 
 impl Console {
