@@ -1,19 +1,19 @@
 // The run program's console: a value that is handed the input piece by piece and says what is printed. Reading and writing are in run_plan.
-ghost use Rattle.std.specs.Prelude.{◌≡◌, ◌+◌, ◌≤◌, min, length, true};
+ghost use Rattle.std.specs.Prelude.{◌≡◌, ◌+◌, ◌≤◌, min, length, Some, IfSome};
 ghost use Rattle.plan.specs.Limits.{max_jobs};
 ghost use Rattle.executive.specs.Run.{start};
 ghost use Rattle.executive.specs.Step.{step};
 ghost use Rattle.console.specs.Run.{job_number, job_lines};
 ghost use Rattle.console.specs.Printed.{step_line_from};
 ghost use Rattle.console.specs.Pieces.{Piece, longest, CountsIn};
-ghost use Rattle.console.specs.Console.{fresh_console, waits, refuses, started_event, plan_event, line_ready, line_after, stepped_event, line_event, unread_output, end_in, is_stopped, run_room, turn_of, next_turn, next_out, end_length, end_written};
+ghost use Rattle.console.specs.Console.{fresh_console, refuses, started_event, plan_event, line_ready, line_after, stepped_event, line_event, unread_output, end_in, is_stopped, run_room, turn_of, next_turn, next_out, end_length, end_written};
 ghost use Rattle.console.specs.Turns.{Told};
 ghost use Rattle.console.specs.declared.run.Stage.TheVariants.{Running};
 ghost use Rattle.plan_text.specs.Reader.{plan_prefix};
 ghost use Rattle.plan_text.specs.DecidedLaws.{is_final};
 
 use crate::print::{put_job_line, put_refused_line, put_step_line};
-use crate::reports::{ReportAt, report_field};
+use crate::reports::report_field;
 use answers::{Answer, Refusal};
 use executive::{Choice, Report, Run};
 use plan::Plan;
@@ -28,7 +28,7 @@ const ENOUGH: usize = 6805;
 // No report line is longer.
 const LONGEST_REPORT: usize = 17;
 
-#[derive(Clone, Copy)]
+#[derive(Clone, Copy, PartialEq, Eq)]
 pub enum Stage {
     Reading,
     Running,
@@ -43,76 +43,57 @@ pub struct Console {
     pub line: u16,
 }
 
-// The console after an event, the bytes of the text that are done with, the bytes printed, and whether it waits for more text.
+// The console after an event, how many bytes of the text are done with, and how many bytes were printed.
 #[derive(Clone, Copy)]
 pub struct Turn {
     pub console: Console,
     pub used: usize,
     pub printed: usize,
-    pub waiting: bool,
 }
 
 // Before any input.
 pub fn fresh_console() -> Console
     ensures { result ≡ fresh_console }
 {
-    let run = executive::blank_run();
     Console {
         stage: Stage::Reading,
-        run: run,
+        run: executive::blank_run(),
         line: 0,
-    }
-}
-
-// The console waits for more text.
-fn waiting(c: Console) -> Turn
-    ensures { result ≡ turn_of (waits c) }
-{
-    Turn {
-        console: c,
-        used: 0,
-        printed: 0,
-        waiting: true,
     }
 }
 
 // A refusal is printed, and the console stops.
 fn refused(c: Console, answer: Answer, out: &mut [u8]) -> Turn
     requires { run_room ≤ length out.old }
-    ensures { Told (refuses c answer) out.old result out.new }
+    ensures { Told (refuses c answer) out.old (Some result) out.new }
 {
-    let printed = put_refused_line(out, 0, answer);
     Turn {
         console: Console {
             stage: Stage::Stopped,
             ..c
         },
         used: 0,
-        printed: printed,
-        waiting: false,
+        printed: put_refused_line(out, 0, answer),
     }
 }
 
 // The run of the plan that was read begins.
 fn begun(c: Console, plan: Plan, used: usize, line: u16, out: &mut [u8]) -> Turn
     requires { run_room ≤ length out.old }
-    ensures { Told (started_event c used line (start plan)) out.old result out.new }
+    ensures { Told (started_event c used line (start plan)) out.old (Some result) out.new }
 {
     let started = executive::start(plan);
-    let answer = started.answer;
-    if answer.is_err() {
-        return refused(c, answer, out);
+    if !answers::is_accepted(started.answer) {
+        return refused(c, started.answer, out);
     }
-    let run = started.run;
     Turn {
         console: Console {
             stage: Stage::Running,
-            run: run,
-            line: line,
+            run: started.run,
+            line,
         },
-        used: used,
+        used,
         printed: 0,
-        waiting: false,
     }
 }
 
@@ -127,21 +108,19 @@ fn is_final(text: &[u8], answer: Answer) -> bool
     ENOUGH <= text.len()
 }
 
-// The plan at the start of the text, once it is there or can no longer be completed.
-fn take_plan(c: Console, text: &[u8], out: &mut [u8]) -> Turn
+// The plan at the start of the text, once it is there or can no longer be completed; until then None.
+fn take_plan(c: Console, text: &[u8], out: &mut [u8]) -> Option<Turn>
     requires { run_room ≤ length out.old }
     ensures { Told (plan_event c text.now) out.old result out.new }
 {
     let prefix = plan_text::reader::plan_prefix(text);
-    let answer = prefix.answer;
-    if answer.is_ok() {
-        let plan = prefix.plan;
-        return begun(c, plan, prefix.next, prefix.line, out);
+    if answers::is_accepted(prefix.answer) {
+        return Some(begun(c, prefix.plan, prefix.next, prefix.line, out));
     }
-    if !is_final(text, answer) {
-        return waiting(c);
+    if !is_final(text, prefix.answer) {
+        return None;
     }
-    refused(c, answer, out)
+    Some(refused(c, prefix.answer, out))
 }
 
 // The first line's LF is in hand, or the line is too long to be of the form.
@@ -175,50 +154,50 @@ fn put_step(out: &mut [u8], run: Run, choice: Choice) -> usize
     requires { run_room ≤ length out.old }
     ensures { Piece longest 0 (step_line_from run choice) out.old result out.new }
 {
-    let slot = choice.slot;
-    let job = job_number(slot);
-    let phase = run.phase;
-    put_step_line(out, 0, run.t, job, phase, choice.hi, choice.lo)
+    put_step_line(
+        out,
+        0,
+        run.t,
+        job_number(choice.slot),
+        run.phase,
+        choice.hi,
+        choice.lo,
+    )
 }
 
 // A report is applied: the step line and the next run, or a refusal.
 fn stepped(c: Console, report: Report, used: usize, out: &mut [u8]) -> Turn
     requires { run_room ≤ length out.old }
-    ensures { Told (stepped_event c used (step c.run report)) out.old result out.new }
+    ensures { Told (stepped_event c used (step c.run report)) out.old (Some result) out.new }
 {
-    let run = c.run;
-    let after = run.step(report);
-    let answer = after.answer;
-    if answer.is_err() {
-        return refused(c, answer, out);
+    let after = c.run.step(report);
+    if !answers::is_accepted(after.answer) {
+        return refused(c, after.answer, out);
     }
-    let next = after.run;
-    let choice = after.choice;
-    let printed = put_step(out, run, choice);
+    let printed = put_step(out, c.run, after.choice);
     Turn {
         console: Console {
             stage: Stage::Running,
-            run: next,
+            run: after.run,
             line: line_after(c.line),
         },
-        used: used,
-        printed: printed,
-        waiting: false,
+        used,
+        printed,
     }
 }
 
-// The report line at the start of the text, once it can be judged.
-fn take_line(c: Console, text: &[u8], out: &mut [u8]) -> Turn
+// The report line at the start of the text, once it can be judged; until then None.
+fn take_line(c: Console, text: &[u8], out: &mut [u8]) -> Option<Turn>
     requires { run_room ≤ length out.old }
     ensures { Told (line_event c text.now) out.old result out.new }
 {
     if !line_ready(text) {
-        return waiting(c);
+        return None;
     }
-    let ReportAt::Got(report, used) = report_field(text) else {
-        return refused(c, Err(Refusal::Form(c.line)), out);
+    let Some((report, used)) = report_field(text) else {
+        return Some(refused(c, Err(Refusal::Form(c.line)), out));
     };
-    stepped(c, report, used, out)
+    Some(stepped(c, report, used, out))
 }
 
 // How many jobs the run has, for any plan record.
@@ -251,11 +230,10 @@ fn put_unread(out: &mut [u8], text: &[u8]) -> usize
     ensures { Piece run_room 0 (unread_output (plan_prefix text.now)) out.old result out.new }
 {
     let prefix = plan_text::reader::plan_prefix(text);
-    let answer = prefix.answer;
-    if answer.is_ok() {
+    if answers::is_accepted(prefix.answer) {
         return 0;
     }
-    put_refused_line(out, 0, answer)
+    put_refused_line(out, 0, prefix.answer)
 }
 
 // The job lines; a line that is not finished is bad.
@@ -274,29 +252,23 @@ impl Console {
     pub fn is_stopped(self) -> bool
         ensures { result ≡ is_stopped self.stage }
     {
-        let stage = self.stage;
-        match stage {
-            Stage::Reading => false,
-            Stage::Running => false,
-            Stage::Stopped => true,
-        }
+        self.stage == Stage::Stopped
     }
 
     // One event for the text in hand, which is all input that is not done with; what it prints is at the start of the output.
-    // An output with less than RUN_ROOM is left as it is, and the console waits.
-    pub fn next(self, text: &[u8], out: &mut [u8]) -> Turn
+    // None: the console waits for more text, where it stands, and the output is as it was. It waits too at an output with less than RUN_ROOM.
+    pub fn next(self, text: &[u8], out: &mut [u8]) -> Option<Turn>
         ensures value { result ≡ next_turn self text.now out.old }
         ensures out_after { out.new ≡ next_out self text.now out.old }
-        ensures used_in_bounds { (result.used ≤ length text.now) × CountsIn result.printed out.new }
+        ensures used_in_bounds { IfSome result (λ turn. (turn.used ≤ length text.now) × CountsIn turn.printed out.new) }
     {
         if out.len() < RUN_ROOM {
-            return waiting(self);
+            return None;
         }
-        let stage = self.stage;
-        match stage {
+        match self.stage {
             Stage::Reading => take_plan(self, text, out),
             Stage::Running => take_line(self, text, out),
-            Stage::Stopped => waiting(self),
+            Stage::Stopped => None,
         }
     }
 
@@ -309,8 +281,7 @@ impl Console {
         if out.len() < RUN_ROOM {
             return 0;
         }
-        let stage = self.stage;
-        match stage {
+        match self.stage {
             Stage::Reading => put_unread(out, text),
             Stage::Running => put_rest(out, text, self),
             Stage::Stopped => 0,

@@ -19,4 +19,4 @@ values-are r choice job hi lo ej eh el = rw (ej, eh, el)
 
 pub returns : goal.returns
 returns c =
-    piece_is (values-are c.args.run c.args.choice _ _ _ c.job_number-job.ensures (to_z-of_z {w = w32} {z = c.args.choice.hi} (search rules)) (to_z-of_z {w = w32} {z = c.args.choice.lo} (record { sfits = omega arith }))) c.put_step_line.ensures
+    piece_is (values-are c.args.run c.args.choice _ _ _ c.job_number.ensures (to_z-of_z {w = w32} {z = c.args.choice.hi} (search rules)) (to_z-of_z {w = w32} {z = c.args.choice.lo} (record { sfits = omega arith }))) c.put_step_line.ensures

@@ -1,11 +1,10 @@
 -- `run::Console::next` meets its promise: with room, the event of its stage.
-use mathlib.Core.Path.{refl}
 use Rattle.console.specs.declared.run.Stage.TheVariants.{Reading, Running, Stopped}
-use Rattle.console.specs.Turns.{told_is, told_quiet, stage_event, next_no_room, next_told}
+use Rattle.console.specs.Turns.{told_is, told_wait, stage_event, next_no_room, next_told}
 use Rattle.console.proofs.run.Console.next.Goals as goal
 
 pub returns-then-out-lt-RUN_ROOM : goal.returns-then-out-lt-RUN_ROOM
-returns-then-out-lt-RUN_ROOM c = let both = next_no_room c.args.self c.args.text.now _ c.if-out-lt-RUN_ROOM.true _ c.waiting.ensures in record { value = both.0; out_after = both.1.0; used_in_bounds = both.1.1 }
+returns-then-out-lt-RUN_ROOM c = let both = next_no_room c.args.self c.args.text.now _ c.if-out-lt-RUN_ROOM.true in record { value = both.0; out_after = both.1; used_in_bounds = tt }
 
 pub returns-in-Reading : goal.returns-in-Reading
 returns-in-Reading c = let both =
@@ -17,4 +16,4 @@ returns-in-Running c = let both =
 
 pub returns-in-Stopped : goal.returns-in-Stopped
 returns-in-Stopped c = let both =
-    next_told c.args.self c.args.text.now _ c.if-out-lt-RUN_ROOM.false _ _ (told_is (stage_event c.args.self c.args.text.now Stopped c.in-Stopped.is) (told_quiet _ _ _ refl c.waiting-in-Stopped.ensures)) in record { value = both.0; out_after = both.1.0; used_in_bounds = both.1.1 }
+    next_told c.args.self c.args.text.now _ c.if-out-lt-RUN_ROOM.false _ _ (told_is (stage_event c.args.self c.args.text.now Stopped c.in-Stopped.is) (told_wait _ _)) in record { value = both.0; out_after = both.1.0; used_in_bounds = both.1.1 }
