@@ -10,6 +10,6 @@ invariant_of-self-2 g c =
 
 pub returns : goal.returns
 returns g c =
-    let r = c.read_after.ensures in
+    let r = c.read_after.ensures.read in
     let s = c.in_ok-console.ensures in
     stands_on _ _ _ _ c.read_after.new.held r.stays _ _ _ c.requires.standing s (omega arith) (moved _ _ _ (search rules) (search rules) _ c.copy_within.ensures.after)
