@@ -16,32 +16,14 @@ use spares::Spare;
 fn has_slot(k: u16, e: Entry) -> bool
     ensures { result ≡ ((1 ≤? k) && live e) }
 {
-    if k < 1 {
-        return false;
-    }
-    is_live(e)
-}
-
-fn is_above(spare: Spare) -> bool
-    ensures { result ≡ above0 spare }
-{
-    0 < spare
-}
-
-fn is_below(spare: Spare) -> bool
-    ensures { result ≡ below0 spare }
-{
-    spare < 0
+    1 <= k && is_live(e)
 }
 
 // With these current spares the slot is open to all ready jobs, not to the HI jobs only.
 fn open_to_all(hi: Spare, lo: Spare) -> bool
     ensures { result ≡ (above0 hi && not (below0 lo)) }
 {
-    if !is_above(hi) {
-        return false;
-    }
-    !is_below(lo)
+    0 < hi && 0 <= lo
 }
 
 impl Run {
@@ -50,18 +32,11 @@ impl Run {
         requires { Sound self × (ready ≡ set_of (members false self)) }
         ensures { result ≡ chosen_t self }
     {
-        let p = self.plan;
-        let table = p.table;
-        let t = plan::wide(self.t);
-        let k = table[t];
-        let i = index(k);
-        let entry = self.entry;
-        let e = entry[i];
-        if has_slot(k, e) {
+        let k = self.plan.table[usize::from(self.t)];
+        if has_slot(k, self.entry[index(k)]) {
             return Slot::Job(k);
         }
-        let job = p.job;
-        earliest(job, ready)
+        earliest(self.plan.job, ready)
     }
 
     // `hi` and `lo` are the current spares, `ready` the set of the ready jobs.
@@ -69,24 +44,18 @@ impl Run {
         requires { Sound self × (hi ≡ current_hi self) × (lo ≡ current_lo self) × (ready ≡ set_of (members false self)) }
         ensures { result ≡ chosen_h self }
     {
-        let p = self.plan;
-        let job = p.job;
         if open_to_all(hi, lo) {
-            return earliest(job, ready);
+            return earliest(self.plan.job, ready);
         }
-        let entry = self.entry;
-        let set = ready_set(true, self.t, job, entry, p.jobs);
-        earliest(job, set)
+        let set = ready_set(true, self.t, self.plan.job, self.entry, self.plan.jobs);
+        earliest(self.plan.job, set)
     }
 
     // The set of the ready jobs.
     pub(crate) fn ready(self) -> u32
         ensures { result ≡ set_of (members false self) }
     {
-        let p = self.plan;
-        let job = p.job;
-        let entry = self.entry;
-        ready_set(false, self.t, job, entry, p.jobs)
+        ready_set(false, self.t, self.plan.job, self.entry, self.plan.jobs)
     }
 
     // `hi` and `lo` are the current spares, `ready` the set of the ready jobs.
@@ -94,8 +63,7 @@ impl Run {
         requires { Sound self × (hi ≡ current_hi self) × (lo ≡ current_lo self) × (ready ≡ set_of (members false self)) }
         ensures { result ≡ chosen self }
     {
-        let phase = self.phase;
-        match phase {
+        match self.phase {
             Phase::T => self.chosen_t(ready),
             Phase::H => self.chosen_h(hi, lo, ready),
         }

@@ -2,6 +2,7 @@
 #![tactic(auto)]
 
 ghost use Rattle.std.specs.Prelude.{◌≡◌};
+ghost use Rattle.plan.specs.Plan.{jobs_of};
 ghost use Rattle.intervals.specs.Layout.{layout_of};
 ghost use Rattle.executive.specs.Run.{blank_run, start};
 ghost use Rattle.executive.specs.Coherent.{coherent};
@@ -12,7 +13,7 @@ ghost use Rattle.executive.specs.Sound.{Sound, Countable};
 use answers::Answer;
 use entries::{Entry, Kind};
 use intervals::Layout;
-use plan::Plan;
+use plan::{Job, Plan};
 use ready::Slot;
 use spares::{Row, Spare};
 use stepping::kind_fits;
@@ -72,17 +73,13 @@ pub struct Stepped {
 pub fn blank_run() -> Run
     ensures { result ≡ blank_run }
 {
-    let p = plan::blank_plan();
-    let entry = entries::fresh_entries();
-    let hi = spares::blank_row();
-    let lo = spares::blank_row();
     Run {
-        plan: p,
+        plan: plan::blank_plan(),
         t: 0,
         phase: Phase::T,
-        hi: hi,
-        lo: lo,
-        entry: entry,
+        hi: spares::blank_row(),
+        lo: spares::blank_row(),
+        entry: entries::fresh_entries(),
     }
 }
 
@@ -130,21 +127,26 @@ fn no_choice(answer: Answer) -> Choice
 }
 
 impl Run {
+    // The jobs of its plan, the first n; n beyond the array means all of it.
+    fn jobs(&self) -> &[Job]
+        ensures { result.now ≡ jobs_of self.now.plan }
+    {
+        let all: &[Job] = &self.plan.job;
+        &all[..usize::from(self.plan.jobs).min(all.len())]
+    }
+
     // Every clause of coherence holds of the record.
     pub fn coherent(self) -> bool
         ensures { result ≡ coherent self }
     {
-        let p = self.plan;
-        let layout = intervals::layout_of(p);
-        self.coherent_in(layout)
+        self.coherent_layout().is_some()
     }
 
     // 10, then 11; `layout` is that of the run's plan.
-    fn can_go_on(self, layout: Layout) -> Answer
-        requires { layout ≡ layout_of self.plan }
+    fn can_go_on(self) -> Answer
         ensures { result ≡ can_go_on self }
     {
-        if !self.coherent_in(layout) {
+        if self.coherent_layout().is_none() {
             return Answer::Incoherent;
         }
         if self.t < self.plan.slots {
@@ -177,9 +179,8 @@ impl Run {
     pub fn choose(self) -> Choice
         ensures { result ≡ choose self }
     {
-        let p = self.plan;
-        let layout = intervals::layout_of(p);
-        let answer = self.can_go_on(layout);
+        let layout = intervals::layout_of(self.plan);
+        let answer = self.can_go_on();
         if !answers::is_accepted(answer) {
             return no_choice(answer);
         }
@@ -213,9 +214,8 @@ impl Run {
     pub fn step(self, report: Report) -> Stepped
         ensures { result ≡ step self report }
     {
-        let p = self.plan;
-        let layout = intervals::layout_of(p);
-        let answer = self.can_go_on(layout);
+        let layout = intervals::layout_of(self.plan);
+        let answer = self.can_go_on();
         if !answers::is_accepted(answer) {
             return self.refused(answer);
         }
