@@ -7,7 +7,7 @@ use Rattle.std.proofs.Math.Option.{Option, none, some}
 use Rattle.std.proofs.Math.ListN.{length}
 use Rattle.std.proofs.Math.Seq.{drop-cons}
 use borrow.Author.Tests.{eq-eqb, ne_eqb}
-use Rattle.answers.specs.declared.Answer.TheVariants.{Form}
+use Rattle.answers.specs.Answer.{Form}
 use Rattle.words.specs.Words.{◌=?◌}
 use Rattle.words.specs.Cases.{by_test}
 use Rattle.entries.specs.declared.Kind.{Kind}

@@ -8,9 +8,7 @@ use Rattle.std.proofs.Math.ListN.{length}
 use borrow.Author.Tests.{lt-ltb, le-ltb, le-leb, lt-leb, eq-eqb, ne_eqb, not-true, not-false}
 use Rattle.words.specs.Words.{◌≤?◌}
 use Rattle.words.specs.Cases.{by_test, never}
-use Rattle.answers.specs.declared.Answer.{Answer}
-use Rattle.answers.specs.declared.Answer.TheVariants.{Form}
-use Rattle.answers.specs.Answer.{accepted, first_place}
+use Rattle.answers.specs.Answer.{Answer, Form, accepted, first_place}
 use Rattle.lines.specs.Lines.{line_length, lines_in}
 use Rattle.lines.specs.Writing.{put}
 use Rattle.lines.specs.WritingLaws.{put_nil, length_put}

@@ -44,7 +44,7 @@ fn put_analysis(out: &mut [u8], a: Analysis) -> usize
     ensures { Piece check_room 0 (analysis_lines a) out.old result out.new }
 {
     let answer = a.answer;
-    if !answers::is_accepted(answer) {
+    if answer.is_err() {
         return put_refused_line(out, 0, answer);
     }
     let end = put_interval_lines(out, a);
@@ -62,7 +62,7 @@ pub fn check_output(text: &[u8], out: &mut [u8]) -> usize
     }
     let read = plan_text::reader::read_plan(text);
     let answer = read.answer;
-    if !answers::is_accepted(answer) {
+    if answer.is_err() {
         return put_refused_line(out, 0, answer);
     }
     let plan = read.plan;

@@ -14,7 +14,7 @@ ghost use Rattle.plan_text.specs.DecidedLaws.{is_final};
 
 use crate::print::{put_job_line, put_refused_line, put_step_line};
 use crate::reports::{ReportAt, report_field};
-use answers::Answer;
+use answers::{Answer, Refusal};
 use executive::{Choice, Report, Run};
 use plan::Plan;
 use ready::Slot;
@@ -100,7 +100,7 @@ fn begun(c: Console, plan: Plan, used: usize, line: u16, out: &mut [u8]) -> Turn
 {
     let started = executive::start(plan);
     let answer = started.answer;
-    if !answers::is_accepted(answer) {
+    if answer.is_err() {
         return refused(c, answer, out);
     }
     let run = started.run;
@@ -134,7 +134,7 @@ fn take_plan(c: Console, text: &[u8], out: &mut [u8]) -> Turn
 {
     let prefix = plan_text::reader::plan_prefix(text);
     let answer = prefix.answer;
-    if answers::is_accepted(answer) {
+    if answer.is_ok() {
         let plan = prefix.plan;
         return begun(c, plan, prefix.next, prefix.line, out);
     }
@@ -189,7 +189,7 @@ fn stepped(c: Console, report: Report, used: usize, out: &mut [u8]) -> Turn
     let run = c.run;
     let after = run.step(report);
     let answer = after.answer;
-    if !answers::is_accepted(answer) {
+    if answer.is_err() {
         return refused(c, answer, out);
     }
     let next = after.run;
@@ -216,7 +216,7 @@ fn take_line(c: Console, text: &[u8], out: &mut [u8]) -> Turn
         return waiting(c);
     }
     let ReportAt::Got(report, used) = report_field(text) else {
-        return refused(c, Answer::Form(c.line), out);
+        return refused(c, Err(Refusal::Form(c.line)), out);
     };
     stepped(c, report, used, out)
 }
@@ -252,7 +252,7 @@ fn put_unread(out: &mut [u8], text: &[u8]) -> usize
 {
     let prefix = plan_text::reader::plan_prefix(text);
     let answer = prefix.answer;
-    if answers::is_accepted(answer) {
+    if answer.is_ok() {
         return 0;
     }
     put_refused_line(out, 0, answer)
@@ -266,7 +266,7 @@ fn put_rest(out: &mut [u8], text: &[u8], c: Console) -> usize
     if text.len() == 0 {
         return put_job_lines(out, c.run);
     }
-    put_refused_line(out, 0, Answer::Form(c.line))
+    put_refused_line(out, 0, Err(Refusal::Form(c.line)))
 }
 
 impl Console {

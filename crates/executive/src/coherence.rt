@@ -32,9 +32,7 @@ impl Run {
     pub(crate) fn coherent_layout(self) -> Option<Layout>
         ensures { result ≡ (if coherent self then Some (layout_of self.plan) else None) }
     {
-        if !answers::is_accepted(well_formed::well_formed(self.plan)) {
-            return None;
-        }
+        well_formed::well_formed(self.plan).ok()?;
         if self.plan.slots < self.t || !entries_hold(self.t, self.jobs(), &self.entry) {
             return None;
         }

@@ -4,8 +4,9 @@ ghost use Rattle.plan.specs.Limits.{max_slots, max_jobs};
 ghost use Rattle.plan.specs.Counts.{max_count};
 ghost use Rattle.entries.specs.Entry.{ran_on};
 ghost use Rattle.executive.specs.Step.{kind_fits, reported, expired_entries, expired, overrun, every_settled, can_return, phase_after, judged};
-ghost use Rattle.executive.specs.Sound.{Listed, Countable};
+ghost use Rattle.executive.specs.Sound.{Countable};
 
+use crate::going::Going;
 use crate::{Phase, Run};
 use entries::{Entry, Kind, expired_entry, past_lo, settled, standing_after};
 use plan::{JOBS, Job};
@@ -57,7 +58,7 @@ fn every_settled(job: &[Job], entry: &[Entry], counts: &[u16]) -> bool
 impl Run {
     // The report of a slot is applied to its job, and t grows by 1.
     #[tactic(auto, unfolding(crate::specs::Step::reported))]
-    pub(crate) fn reported(self, slot: Slot, kind: Kind) -> Run
+    fn reported(self, slot: Slot, kind: Kind) -> Run
         requires { (self.t < max_slots) × Countable self slot }
         ensures { result ≡ reported self slot kind }
     {
@@ -76,7 +77,7 @@ impl Run {
 
     // Live LO jobs with d <= t are dropped; entries beyond the n jobs stay.
     #[tactic(auto, unfolding(crate::specs::Step::expired))]
-    pub(crate) fn expired(self) -> Run
+    fn expired(self) -> Run
         ensures { result ≡ expired self }
     {
         let entry = expired_entries(self.t, self.jobs(), self.entry);
@@ -116,12 +117,28 @@ impl Run {
 
     // The phase, judged on what stands after the report and the expiry.
     #[tactic(auto, unfolding(crate::specs::Step::judged))]
-    pub(crate) fn judged(self, slot: Slot) -> Run
+    fn judged(self, slot: Slot) -> Run
         ensures { result ≡ judged self slot }
     {
         Run {
             phase: self.phase_after(slot),
             ..self
         }
+    }
+}
+
+impl Going {
+    ghost use Rattle.executive.specs.Choice.{chosen};
+    ghost use Rattle.executive.specs.Step.{next_run};
+
+    // The run after an accepted report of the slot that was chosen: the report, expiry, the phase, then both rows.
+    pub(crate) fn next_run(self, slot: Slot, kind: Kind) -> Run
+        requires { slot ≡ chosen self.run }
+        ensures { result ≡ next_run self.run slot kind }
+    {
+        let told = self.run.reported(slot, kind);
+        let left = told.expired();
+        let judged = left.judged(slot);
+        judged.refreshed(self.layout)
     }
 }

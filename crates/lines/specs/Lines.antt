@@ -4,10 +4,8 @@ use Prim.Native.Char.{code}
 use Prim.Native.String.{String}
 use Prim.Native.String as Str
 use Rattle.std.proofs.Math.Option.{Option, none, some}
-use Rattle.answers.specs.declared.Answer.{Answer}
-use Rattle.answers.specs.declared.Answer.TheVariants.{Form}
+use Rattle.answers.specs.Answer.{Answer, Form, accepted, ◌unless◌}
 use Rattle.words.specs.Words.{◌≤?◌, ◌<?◌, ◌=?◌}
-use Rattle.answers.specs.Answer.{accepted, ◌unless◌}
 
 -- the bytes of a text in quotes
 abbrev pub bytes : String → List ℕ

@@ -2,8 +2,7 @@
 -- The text from place `at` on is `drop at text`; its next line starts at `line_after text at`.
 use Rattle.std.specs.Prelude.{ℕ, ◌+◌, ◌-◌, ◌≤◌, ◌≡◌, ◌&&◌, List, length, take, drop, if◌then◌else◌}
 use Rattle.std.proofs.Math.Option.{Option, none, some}
-use Rattle.answers.specs.declared.Answer.{Answer}
-use Rattle.answers.specs.Answer.{accepted}
+use Rattle.answers.specs.Answer.{Answer, accepted}
 use Rattle.words.specs.Words.{◌<?◌, filled}
 use Rattle.lines.specs.Lines.{Cursor, Read, got, refused, line_length, begins, number, value_in}
 use Rattle.lines.specs.declared.reading.ValueAt.{ValueAt}

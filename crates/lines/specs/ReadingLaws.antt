@@ -11,7 +11,7 @@ use native.Mathlib.Omega.{arith}
 use Rattle.std.proofs.Math.ListN.{length, length-drop}
 use Rattle.std.proofs.Math.Seq.{drop-drop, take-nil}
 use borrow.Author.Tests.{eqb-true, eqb-false, eq-eqb, ne_eqb, le-ltb, lt-ltb, ltb-true}
-use Rattle.answers.specs.declared.Answer.TheVariants.{Form}
+use Rattle.answers.specs.Answer.{Form}
 use Rattle.words.specs.Words.{◌<?◌}
 use Rattle.lines.specs.Lines.{bytes, LF, got, refused, line_length, begins, same_bytes, number, number_from, value_in, field}
 use Rattle.lines.specs.Reading.{line_after, line_here, value_at, number_read, number_then, number_at, standing}

@@ -4,14 +4,13 @@
 
 ghost use Rattle.std.specs.Prelude.{◌≡◌, map, take, ◌≤◌, ◌<◌};
 ghost use Rattle.words.specs.Words.{every};
-ghost use Rattle.answers.specs.declared.Answer.TheVariants.{SlotLimit, JobLimit};
-ghost use Rattle.answers.specs.Answer.{◌unless◌};
+ghost use Rattle.answers.specs.Answer.{SlotLimit, JobLimit, ◌unless◌};
 ghost use Rattle.plan.specs.Limits.{max_slots, max_jobs, one_to};
 ghost use Rattle.plan.specs.Plan.{blank_job, blank_plan, is_hi, counts_at};
 ghost use Rattle.plan.specs.Rules.{window_holds, budget_holds, windows_hold};
 ghost use Rattle.plan.specs.Counts.{counted_with, count_place};
 
-use answers::Answer;
+use answers::{Answer, Refusal};
 
 pub const SLOTS: usize = 512;
 
@@ -89,12 +88,12 @@ pub fn slot_limit(slots: u16) -> Answer
     ensures { result ≡ (SlotLimit unless one_to max_slots slots) }
 {
     if slots < 1 {
-        return Answer::SlotLimit;
+        return Err(Refusal::SlotLimit);
     }
     if wide(slots) <= SLOTS {
-        Answer::Accepted
+        Ok(())
     } else {
-        Answer::SlotLimit
+        Err(Refusal::SlotLimit)
     }
 }
 
@@ -103,12 +102,12 @@ pub fn job_limit(jobs: u16) -> Answer
     ensures { result ≡ (JobLimit unless one_to max_jobs jobs) }
 {
     if jobs < 1 {
-        return Answer::JobLimit;
+        return Err(Refusal::JobLimit);
     }
     if wide(jobs) <= JOBS {
-        Answer::Accepted
+        Ok(())
     } else {
-        Answer::JobLimit
+        Err(Refusal::JobLimit)
     }
 }
 

@@ -5,9 +5,7 @@ use Rattle.std.proofs.lemmas.Bool.{false≢true}
 use Rattle.std.proofs.Math.Option.{none}
 use Rattle.words.specs.Words.{◌≤?◌}
 use Rattle.words.specs.Cases.{by_test, both_hold}
-use Rattle.answers.specs.declared.Answer.{Answer}
-use Rattle.answers.specs.declared.Answer.TheVariants.{SlotLimit, JobLimit}
-use Rattle.answers.specs.Answer.{accepted, ◌unless◌, first_place}
+use Rattle.answers.specs.Answer.{Answer, SlotLimit, JobLimit, accepted, ◌unless◌, first_place}
 use Rattle.answers.specs.RefusalLaws.{neither_true}
 use Rattle.lines.specs.Lines.{bytes, number, Read, got, refused, Reader, ◌>>=◌, must, lines_in, nothing_after}
 use Rattle.lines.specs.RoundLaws.{cursor, unread}

@@ -6,9 +6,7 @@ use Rattle.std.proofs.Math.Bool.{true, false}
 use Rattle.std.proofs.Math.ListN.{length, length-drop}
 use borrow.Author.Tests.{leb-true, eq-eqb, ne_eqb}
 use Rattle.words.specs.Words.{◌≤?◌, ◌=?◌, filled}
-use Rattle.answers.specs.declared.Answer.{Answer}
-use Rattle.answers.specs.declared.Answer.TheVariants.{Accepted, Form, SlotLimit, JobLimit}
-use Rattle.answers.specs.Answer.{accepted, ◌unless◌}
+use Rattle.answers.specs.Answer.{Answer, Accepted, Form, SlotLimit, JobLimit, accepted, ◌unless◌}
 use Rattle.plan.specs.declared.Job.{Job}
 use Rattle.plan.specs.declared.Plan.{Plan}
 use Rattle.plan.specs.Limits.{max_slots, max_jobs, one_to}

@@ -1,5 +1,5 @@
 -- Laws for the writer's code: the numbers checked job by job and slot by slot, and one check after another.
-use Rattle.std.specs.Prelude.{ℕ, suc, ◌+◌, ◌*◌, ◌/◌, ◌≤◌, ◌<◌, ◌≡◌, Bool, true, take, drop, get_or}
+use Rattle.std.specs.Prelude.{ℕ, suc, ◌+◌, ◌*◌, ◌/◌, ◌≤◌, ◌<◌, ◌≡◌, Bool, true, take, drop, get_or, Result, Err}
 use Rattle.std.proofs.Common.{add-one, zero-add, arith, ◌∙◌, length-append, drop_of_length-le, length-take-le}
 use Rattle.std.proofs.Math.Numerals.{add-two, add-three}
 use Rattle.std.proofs.Math.Decide.{dec_lt}
@@ -10,9 +10,8 @@ use Rattle.std.proofs.Math.ListN.{length}
 use borrow.Author.Tests.{le-leb, lt-leb}
 use Rattle.words.specs.Words.{◌≤?◌}
 use Rattle.words.specs.ListLaws.{taken_from}
-use Rattle.answers.specs.declared.Answer.{Answer}
-use Rattle.answers.specs.declared.Answer.TheVariants.{Accepted, Written, Form, NoRoom}
-use Rattle.answers.specs.Answer.{accepted, ◌unless◌, ◌and_then◌, first_refusal}
+use Rattle.answers.specs.declared.Refusal.{Refusal}
+use Rattle.answers.specs.Answer.{Answer, Accepted, Form, NoRoom, accepted, ◌unless◌, ◌and_then◌, first_refusal}
 use Rattle.answers.specs.AnswerLaws.{first_on, first_found}
 use Rattle.plan.specs.declared.Level.{Level}
 use Rattle.plan.specs.declared.Level.TheVariants.{Lo, Hi}
@@ -26,7 +25,7 @@ use Rattle.lines.specs.NumberLaws.{digits_one, digits_few}
 use Rattle.lines.specs.Writing.{put_fit, place_after}
 use Rattle.lines.specs.WritingLaws.{digits_shorter, line_length_lem, first_room, then_room, fit_then, after_fits, put_fits, put_start}
 use Rattle.plan_text.specs.Read.{level_text, job_text, plan_text}
-use Rattle.plan_text.specs.Write.{numbers_on, numbers_fit, write_answer, write_out}
+use Rattle.plan_text.specs.Write.{Written, numbers_on, numbers_fit, write_answer, write_out}
 use Rattle.plan_text.specs.Parts.{numbers_in, four_digits}
 use Rattle.plan_text.specs.RoundLaws.{one_to_lem, limit_slots, limit_jobs}
 use Rattle.plan_text.specs.WriteLaws.{all_small}
@@ -241,32 +240,32 @@ jobs_within p h = (one_to_lem max_jobs p.jobs (limit_jobs _ h)).1
 
 module _ (p : Plan) (out : List ℕ) where
   -- the answer and the output are those of the definitions
-  abbrev Ends : Answer → List ℕ → Type 0
+  abbrev Ends : Result ℕ Refusal → List ℕ → Type 0
   Ends r o = (r ≡ write_answer p (length out)) × (o ≡ write_out p out)
 
   -- a refusal leaves the output as it was
-  refused_ends : (r : Answer) → write_answer p (length out) ≡ r → accepted r ≡ false → Ends r out
-  unfolding write_out
-  refused_ends r e f = let z : accepted (write_answer p (length out)) ≡ false = ap accepted e ∙ f in (sym e, rw z)
+  refused_ends : (e : Refusal) → write_answer p (length out) ≡ Err e → Ends (Err e) out
+  unfolding write_out accepted
+  refused_ends e w = (sym w, rw w)
 
-  pub ends_2 : (r : Answer) → r ≡ check2 p → accepted (check2 p) ≡ false → Ends r out
-  unfolding write_answer
-  ends_2 r e f = refused_ends r (rw f (sym e)) (rw e f)
+  pub ends_2 : (e : Refusal) → check2 p ≡ Err e → Ends (Err e) out
+  unfolding write_answer accepted
+  ends_2 e f = refused_ends e (rw f)
 
-  module _ (ok2 : accepted (check2 p) ≡ true) where
-    pub ends_3 : (r : Answer) → r ≡ check3 p → accepted (check3 p) ≡ false → Ends r out
-    unfolding write_answer
-    ends_3 r e f = refused_ends r (rw (ok2, f) (sym e)) (rw e f)
+  module _ (ok2 : check2 p ≡ Accepted) where
+    pub ends_3 : (e : Refusal) → check3 p ≡ Err e → Ends (Err e) out
+    unfolding write_answer accepted
+    ends_3 e f = refused_ends e (rw (ok2, f))
 
-    module _ (ok3 : accepted (check3 p) ≡ true) where
-      pub ends_1 : (r : Answer) → r ≡ numbers_fit p → accepted (numbers_fit p) ≡ false → Ends r out
-      unfolding write_answer
-      ends_1 r e f = refused_ends r (rw (ok2, ok3, f) (sym e)) (rw e f)
+    module _ (ok3 : check3 p ≡ Accepted) where
+      pub ends_1 : (e : Refusal) → numbers_fit p ≡ Err e → Ends (Err e) out
+      unfolding write_answer accepted
+      ends_1 e f = refused_ends e (rw (ok2, ok3, f))
 
-      module _ (ok1 : accepted (numbers_fit p) ≡ true) where
-        pub ends_14 : (len : ℕ) → len ≡ length (plan_text p) → length out < len → Ends (NoRoom len) out
+      module _ (ok1 : numbers_fit p ≡ Accepted) where
+        pub ends_14 : (len : ℕ) → len ≡ length (plan_text p) → length out < len → Ends (Err (Refusal.NoRoom len)) out
         unfolding write_answer accepted
-        ends_14 len e h = refused_ends (NoRoom len) (rw (ok2, ok3, ok1, lt-leb (length (plan_text p)) (length out) (omega arith)) (ap NoRoom (sym e))) refl
+        ends_14 len e h = refused_ends (Refusal.NoRoom len) (rw (ok2, ok3, ok1, lt-leb (length (plan_text p)) (length out) (omega arith)) (ap (λ (n : ℕ). Err (Refusal.NoRoom n)) (sym e)))
 
         pub ends_written : (r : ℕ) (o : List ℕ) → length (plan_text p) ≤ length out → r ≡ length (plan_text p) → o ≡ plan_text p ++ drop (length (plan_text p)) out → Ends (Written r) o
         unfolding write_answer write_out accepted

@@ -7,7 +7,7 @@ ghost use Rattle.plan_text.specs.Read.{level_in, next_plan, read_plan};
 ghost use Rattle.plan_text.specs.Reader.{level_read, level_at, JobHere, JobsHere, SlotsHere, next_lines, last_line, numbered, refused_parts, PartsHere, refused_prefix, refused_read, plan_from, plan_prefix};
 
 use super::PlanRead;
-use answers::Answer;
+use answers::{Answer, Refusal};
 use lines::reading::{NumberAt, ValueAt};
 use plan::{Job, Level, Plan};
 
@@ -177,7 +177,7 @@ fn read_jobs(text: &[u8], at: usize, count: usize, line: u16) -> JobsRead
             }
             JobAt::Bad(bad) => {
                 return JobsRead {
-                    answer: Answer::Form(bad),
+                    answer: Err(Refusal::Form(bad)),
                     job,
                     next: 0,
                 };
@@ -187,7 +187,7 @@ fn read_jobs(text: &[u8], at: usize, count: usize, line: u16) -> JobsRead
         i += 1;
     }
     JobsRead {
-        answer: Answer::Accepted,
+        answer: Ok(()),
         job,
         next,
     }
@@ -220,7 +220,7 @@ fn read_slots(
     while t < count {
         let NumberAt::Got(entry, after) = slot_field(text, next) else {
             return SlotsRead {
-                answer: Answer::Form(l),
+                answer: Err(Refusal::Form(l)),
                 next: 0,
             };
         };
@@ -230,7 +230,7 @@ fn read_slots(
         t += 1;
     }
     SlotsRead {
-        answer: Answer::Accepted,
+        answer: Ok(()),
         next,
     }
 }
@@ -270,7 +270,7 @@ fn read_lines(
     let j = read_jobs(text, at, jobs as usize, line);
     let job = j.job;
     let answer = j.answer;
-    if !answers::is_accepted(answer) {
+    if answer.is_err() {
         return no_parts(answer);
     }
     let first = line + 5 * jobs;
@@ -306,17 +306,17 @@ fn read_parts(text: &[u8], at: usize, line: u16, table: &mut [u16; plan::SLOTS])
     ensures { PartsHere text.now result table.new (next_plan (standing text.now at line)) }
 {
     let NumberAt::Got(slots, second) = slots_field(text, at) else {
-        return no_parts(Answer::Form(line));
+        return no_parts(Err(Refusal::Form(line)));
     };
     let limit = plan::slot_limit(slots);
-    if !answers::is_accepted(limit) {
+    if limit.is_err() {
         return no_parts(limit);
     }
     let NumberAt::Got(jobs, third) = jobs_field(text, second) else {
-        return no_parts(Answer::Form(line + 1));
+        return no_parts(Err(Refusal::Form(line + 1)));
     };
     let limit = plan::job_limit(jobs);
-    if !answers::is_accepted(limit) {
+    if limit.is_err() {
         return no_parts(limit);
     }
     read_lines(text, third, line + 2, slots, jobs, table)
@@ -348,17 +348,17 @@ pub fn plan_from(text: &[u8], at: usize, line: u16) -> PlanPrefix
     ensures { result ≡ plan_from text.now at line }
 {
     if !has_numbers(line) {
-        return refused(Answer::Form(line));
+        return refused(Err(Refusal::Form(line)));
     }
     let mut table = [0u16; plan::SLOTS];
     let p = read_parts(text, at, line, &mut table);
     let answer = p.answer;
-    if !answers::is_accepted(answer) {
+    if answer.is_err() {
         return refused(answer);
     }
     let job = p.job;
     PlanPrefix {
-        answer: Answer::Accepted,
+        answer: Ok(()),
         plan: Plan {
             slots: p.slots,
             jobs: p.jobs,
@@ -396,15 +396,15 @@ pub fn read_plan(text: &[u8]) -> PlanRead
     let mut table = [0u16; plan::SLOTS];
     let p = read_parts(text, 0, 1, &mut table);
     let answer = p.answer;
-    if !answers::is_accepted(answer) {
+    if answer.is_err() {
         return no_plan(answer);
     }
     if p.next < text.len() {
-        return no_plan(Answer::Form(p.line));
+        return no_plan(Err(Refusal::Form(p.line)));
     }
     let job = p.job;
     PlanRead {
-        answer: Answer::Accepted,
+        answer: Ok(()),
         plan: Plan {
             slots: p.slots,
             jobs: p.jobs,

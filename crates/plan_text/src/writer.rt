@@ -10,7 +10,7 @@ ghost use Rattle.plan_text.specs.Read.{level_text, job_text, plan_text};
 ghost use Rattle.plan_text.specs.Write.{numbers_fit, write_answer, write_out};
 ghost use Rattle.plan_text.specs.Parts.{numbers_in, four_digits};
 
-use answers::Answer;
+use answers::{Answer, Refusal};
 use lines::writing;
 use plan::{JOBS, Job, Level, Plan, SLOTS};
 
@@ -24,18 +24,18 @@ fn job_fits(line: u16, j: Job) -> Answer
     ensures { result ≡ first_refusal four_digits line (numbers_in j) }
 {
     if j.release > MOST {
-        return Answer::Form(line + 1);
+        return Err(Refusal::Form(line + 1));
     }
     if j.deadline > MOST {
-        return Answer::Form(line + 2);
+        return Err(Refusal::Form(line + 2));
     }
     if j.lo > MOST {
-        return Answer::Form(line + 3);
+        return Err(Refusal::Form(line + 3));
     }
     if j.hi > MOST {
-        return Answer::Form(line + 4);
+        return Err(Refusal::Form(line + 4));
     }
-    Answer::Accepted
+    Ok(())
 }
 
 // The same of the first n jobs; the first job's lines start at line 3.
@@ -47,14 +47,11 @@ fn jobs_fit(job: [Job; JOBS], n: usize) -> Answer
     let mut line: u16 = 3;
     let mut i = 0;
     while i < n {
-        let answer = job_fits(line, job[i]);
-        if !answers::is_accepted(answer) {
-            return answer;
-        }
+        job_fits(line, job[i])?;
         line += 5;
         i += 1;
     }
-    Answer::Accepted
+    Ok(())
 }
 
 // The same of the first n slots of the table, whose lines start at `line`.
@@ -68,12 +65,12 @@ fn slots_fit(table: [u16; SLOTS], n: usize, line: u16) -> Answer
     let mut i = 0;
     while i < n {
         if table[i] > MOST {
-            return Answer::Form(at);
+            return Err(Refusal::Form(at));
         }
         at += 1;
         i += 1;
     }
-    Answer::Accepted
+    Ok(())
 }
 
 // 1: the first number of the plan above 9999, at its line.
@@ -86,10 +83,7 @@ fn numbers_fit(p: Plan) -> Answer
     let jobs = plan::wide(p.jobs);
     let slots = plan::wide(p.slots);
     let job = p.job;
-    let answer = jobs_fit(job, jobs);
-    if !answers::is_accepted(answer) {
-        return answer;
-    }
+    jobs_fit(job, jobs)?;
     let table = p.table;
     slots_fit(table, slots, 3 + 5 * p.jobs)
 }
@@ -248,25 +242,16 @@ fn put_plan(p: Plan, out: &mut [u8]) -> usize
 
 // The text of a plan. Checked are 2, 3, 1 and 14; a refusal leaves the output as it was, and so are the bytes past the text.
 #[tactic(auto, using(answers::specs::AnswerLaws::passed, answers::specs::AnswerLaws::failed, crate::specs::WriterLaws::slots_within, crate::specs::WriterLaws::jobs_within, crate::specs::WriterLaws::ends_2, crate::specs::WriterLaws::ends_3, crate::specs::WriterLaws::ends_1, crate::specs::WriterLaws::ends_14, crate::specs::WriterLaws::ends_written), unfolding(plan::specs::Rules::check2, plan::specs::Rules::check3))]
-pub fn write_plan(p: Plan, out: &mut [u8]) -> Answer
+pub fn write_plan(p: Plan, out: &mut [u8]) -> Result<usize, Refusal>
     ensures value { result ≡ write_answer p (length out.old) }
     ensures out_after { out.new ≡ write_out p out.old }
 {
-    let slots = plan::slot_limit(p.slots);
-    if !answers::is_accepted(slots) {
-        return slots;
-    }
-    let jobs = plan::job_limit(p.jobs);
-    if !answers::is_accepted(jobs) {
-        return jobs;
-    }
-    let numbers = numbers_fit(p);
-    if !answers::is_accepted(numbers) {
-        return numbers;
-    }
+    plan::slot_limit(p.slots)?;
+    plan::job_limit(p.jobs)?;
+    numbers_fit(p)?;
     let len = text_len(p);
     if out.len() < len {
-        return Answer::NoRoom(len);
+        return Err(Refusal::NoRoom(len));
     }
-    Answer::Written(put_plan(p, out))
+    Ok(put_plan(p, out))
 }

@@ -4,8 +4,7 @@ use mathlib.Core.Path.{◌≡◌, refl, ◌∙◌}
 use lib.ListN.{length}
 use borrow.Author.Rules.{rules}
 use Rattle.words.specs.ListLaws.{long}
-use Rattle.answers.specs.declared.Answer.{Answer}
-use Rattle.answers.specs.Answer.{accepted, ◌and_then◌}
+use Rattle.answers.specs.Answer.{Answer, accepted, ◌and_then◌}
 use Rattle.plan.specs.Limits.{max_slots, max_jobs}
 use Rattle.plan.specs.Plan.{slots_of, counts_at}
 use Rattle.plan.specs.Rules.{check2, check3}
