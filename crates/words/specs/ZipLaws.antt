@@ -9,7 +9,7 @@ use Rattle.std.specs.List.{list_all, zip}
 use Rattle.words.specs.Words.{every}
 
 module _ {A B C : Type 0} (f : A → B → C) where
-  zip_length : (xs : List A) (ys : List B) → length xs ≤ length ys → length (zip_with f xs ys) ≡ length xs
+  pub zip_length : (xs : List A) (ys : List B) → length xs ≤ length ys → length (zip_with f xs ys) ≡ length xs
   unfolding zip_with
   zip_length [] ys h = refl
   zip_length (x ∷ xs) [] h = absurd (not-suc-le-zero h)
