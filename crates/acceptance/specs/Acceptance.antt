@@ -2,9 +2,7 @@
 use Rattle.std.specs.Prelude.{ℕ, not}
 use mathlib.Core.List.{List, zip_with}
 use Rattle.words.specs.Words.{◌<?◌, below0}
-use Rattle.answers.specs.declared.Answer.{Answer}
-use Rattle.answers.specs.declared.Answer.TheVariants.{Overdrawn}
-use Rattle.answers.specs.Answer.{◌unless◌, ◌and_then◌, first_refusal}
+use Rattle.answers.specs.Answer.{Answer, Overdrawn, ◌unless◌, ◌and_then◌, first_refusal}
 use Rattle.plan.specs.declared.Plan.{Plan}
 use Rattle.plan.specs.Plan.{jobs_of, slots_of, counts_at}
 use Rattle.spares.specs.Spares.{hi_left, row, current}

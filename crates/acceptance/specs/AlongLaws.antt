@@ -8,9 +8,7 @@ use Rattle.std.proofs.Math.Bool.{not}
 use Rattle.std.proofs.Math.ListN.{get_or}
 use Rattle.words.specs.Words.{◌<?◌}
 use Rattle.words.specs.ZipLaws.{zip_at}
-use Rattle.answers.specs.declared.Answer.{Answer}
-use Rattle.answers.specs.declared.Answer.TheVariants.{Accepted, Overdrawn}
-use Rattle.answers.specs.Answer.{accepted, ◌unless◌, first_refusal}
+use Rattle.answers.specs.Answer.{Answer, Accepted, Overdrawn, accepted, ◌unless◌, first_refusal}
 use Rattle.answers.specs.AnswerLaws.{first_on, first_end_lem}
 use Rattle.windows.specs.Windows.{InTime}
 use Rattle.windows.specs.WindowLaws.{in_time_mono}

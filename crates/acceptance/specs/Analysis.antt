@@ -1,9 +1,7 @@
 -- The analysis of any plan record: the answer, and on acceptance the intervals and both rows of border 0.
 use Rattle.std.specs.Prelude.{ℕ, true, List, map, length, replicate, if◌then◌else◌}
 use Rattle.words.specs.Words.{filled}
-use Rattle.answers.specs.declared.Answer.{Answer}
-use Rattle.answers.specs.declared.Answer.TheVariants.{Accepted}
-use Rattle.answers.specs.Answer.{accepted}
+use Rattle.answers.specs.Answer.{Answer, Accepted, accepted}
 use Rattle.plan.specs.declared.Plan.{Plan}
 use Rattle.plan.specs.Plan.{jobs_of}
 use Rattle.intervals.specs.Layout.{blank_interval}

@@ -1,7 +1,6 @@
 -- Laws of the analysis, for its ways out: refused by 2 to 7 or 17, refused by 8 or 9, accepted.
 use Rattle.std.specs.Prelude.{true, false, ◌≡◌, List, map, ℤ}
-use Rattle.answers.specs.declared.Answer.TheVariants.{Accepted}
-use Rattle.answers.specs.Answer.{accepted, ◌and_then◌}
+use Rattle.answers.specs.Answer.{Accepted, accepted, ◌and_then◌}
 use Rattle.plan.specs.declared.Plan.{Plan}
 use Rattle.plan.specs.Plan.{jobs_of}
 use Rattle.intervals.specs.declared.Layout.{Layout}

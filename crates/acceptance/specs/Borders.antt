@@ -1,9 +1,7 @@
 -- Words of the code of check 9: borders along the table, where a HI job is about to end, and check 9 from a border on. The rule is in Acceptance.
 use Rattle.std.specs.Prelude.{ℕ, ◌-◌, ◌≤◌, ◌<◌, ◌≡◌, Bool, false, not, ◌&&◌, List, map, take, drop, get_or, if◌then◌else◌}
 use Rattle.words.specs.Words.{◌=?◌, below0, count_up}
-use Rattle.answers.specs.declared.Answer.{Answer}
-use Rattle.answers.specs.declared.Answer.TheVariants.{Overdrawn}
-use Rattle.answers.specs.Answer.{◌unless◌, first_refusal}
+use Rattle.answers.specs.Answer.{Answer, Overdrawn, ◌unless◌, first_refusal}
 use Rattle.plan.specs.declared.Job.{Job}
 use Rattle.plan.specs.declared.Plan.{Plan}
 use Rattle.plan.specs.Limits.{max_jobs, one_to}

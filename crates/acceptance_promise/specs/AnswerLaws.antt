@@ -5,9 +5,7 @@ use Rattle.std.proofs.Common.{sym, ◌∙◌}
 use Rattle.std.proofs.Math.Bool.{true, false, not}
 use Rattle.words.specs.Words.{below0}
 use Rattle.words.specs.Cases.{never}
-use Rattle.answers.specs.declared.Answer.{Answer}
-use Rattle.answers.specs.declared.Answer.TheVariants.{Accepted, Overdrawn}
-use Rattle.answers.specs.Answer.{accepted, ◌unless◌, ◌and_then◌, first_refusal}
+use Rattle.answers.specs.Answer.{Answer, Accepted, Overdrawn, accepted, ◌unless◌, ◌and_then◌, first_refusal}
 use Rattle.answers.specs.RefusalLaws.{both_accept}
 use Rattle.plan.specs.declared.Plan.{Plan}
 use Rattle.plan.specs.Plan.{slots_of}

@@ -7,9 +7,7 @@ use mathlib.Core.List.{List, [], ◌∷◌, map, flat_map}
 use borrow.Author.Tests.{eq-eqb, ne_eqb, eqb-true, lt-ltb, le-ltb, le-leb, leb-true, leb-false}
 use Rattle.words.specs.Words.{◌≤?◌, ◌=?◌, ◌<?◌}
 use Rattle.words.specs.Cases.{never, both_hold, by_test, by_less, by_equal}
-use Rattle.answers.specs.declared.Answer.{Answer}
-use Rattle.answers.specs.declared.Answer.TheVariants.{Chopped}
-use Rattle.answers.specs.Answer.{accepted, ◌unless◌, ◌and_then◌, first_refusal}
+use Rattle.answers.specs.Answer.{Answer, Chopped, accepted, ◌unless◌, ◌and_then◌, first_refusal}
 use Rattle.answers.specs.RefusalLaws.{each_accepted, some_refused, unless_holds, unless_fails, both_accept}
 use Rattle.plan.specs.declared.Job.{Job}
 use Rattle.plan.specs.declared.Plan.{Plan}

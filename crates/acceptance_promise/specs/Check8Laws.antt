@@ -10,8 +10,7 @@ use Rattle.std.proofs.Math.ListN.{get_or}
 use borrow.Author.Tests.{leb-true, leb-false, le-leb, lt-leb}
 use Rattle.words.specs.Words.{◌≤?◌, sum}
 use Rattle.words.specs.Cases.{by_test}
-use Rattle.answers.specs.declared.Answer.TheVariants.{Overfull}
-use Rattle.answers.specs.Answer.{accepted, ◌unless◌}
+use Rattle.answers.specs.Answer.{Overfull, accepted, ◌unless◌}
 use Rattle.windows.specs.Sums.{total, gate}
 use Rattle.windows.specs.SumLaws.{total_same, gate_open, gate_shut, gate_none}
 use Rattle.windows.specs.Windows.{inside_at, within}

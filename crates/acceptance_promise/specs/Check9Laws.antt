@@ -6,8 +6,7 @@ use Rattle.std.proofs.Math.Bool.{not}
 use Rattle.std.proofs.Math.ListN.{get_or}
 use borrow.Author.Tests.{not-true, not-false}
 use Rattle.words.specs.Cases.{by_test, never}
-use Rattle.answers.specs.declared.Answer.TheVariants.{Overdrawn}
-use Rattle.answers.specs.Answer.{accepted, ◌unless◌, ◌and_then◌}
+use Rattle.answers.specs.Answer.{Overdrawn, accepted, ◌unless◌, ◌and_then◌}
 use Rattle.windows.specs.Windows.{due_by, within}
 use Rattle.windows.specs.WindowLaws.{due_mono}
 use Rattle.plan.specs.declared.Plan.{Plan}

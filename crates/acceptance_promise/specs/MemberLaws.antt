@@ -4,8 +4,7 @@ use Rattle.std.proofs.Math.Decide.{dec_lt, ℕ_discrete}
 use Rattle.std.proofs.Common.{arith, lt-ltb, le-ltb, eq-eqb, ne_eqb}
 use mathlib.Core.List.{List, [], ◌∷◌, Memᴰ}
 use Rattle.words.specs.Words.{◌<?◌, ◌=?◌}
-use Rattle.answers.specs.declared.Answer.{Answer}
-use Rattle.answers.specs.Answer.{accepted, first_refusal}
+use Rattle.answers.specs.Answer.{Answer, accepted, first_refusal}
 use Rattle.intervals.specs.Intervals.{insert, rising}
 use Rattle.answers.specs.RefusalLaws.{both_accept}
 

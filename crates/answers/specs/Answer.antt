@@ -1,13 +1,62 @@
 -- The answers: the number of each, its place or places, and how answers are put in order.
-use Rattle.std.specs.Prelude.{ℕ, suc, Bool, List, [], ◌∷◌, get_or, if◌then◌else◌}
-use Rattle.answers.specs.declared.Answer.{Answer}
-use Rattle.answers.specs.declared.Answer.TheVariants.{Accepted, Written, Form, SlotLimit, JobLimit, Window, Budget, TableSlot, TableCount, Overfull, Overdrawn, Incoherent, Over, OtherSlot, WrongKind, NoRoom, Chopped}
-use Rattle.words.specs.Words.{◌=?◌}
+use Rattle.std.specs.Prelude.{ℕ, suc, Bool, List, [], ◌∷◌, get_or, if◌then◌else◌, Result, Ok, Err, is_ok}
+use Rattle.answers.specs.declared.Refusal.{Refusal}
+
+-- accepted, or the refusal
+abbrev pub Answer : Type 0
+Answer = Result Unit Refusal
+
+pattern abbrev pub Accepted : Answer
+Accepted = Ok tt
+
+pattern abbrev pub Form : ℕ → Answer
+Form line = Err (Refusal.Form line)
+
+pattern abbrev pub SlotLimit : Answer
+SlotLimit = Err Refusal.SlotLimit
+
+pattern abbrev pub JobLimit : Answer
+JobLimit = Err Refusal.JobLimit
+
+pattern abbrev pub Window : ℕ → Answer
+Window job = Err (Refusal.Window job)
+
+pattern abbrev pub Budget : ℕ → Answer
+Budget job = Err (Refusal.Budget job)
+
+pattern abbrev pub TableSlot : ℕ → Answer
+TableSlot slot = Err (Refusal.TableSlot slot)
+
+pattern abbrev pub TableCount : ℕ → Answer
+TableCount job = Err (Refusal.TableCount job)
+
+pattern abbrev pub Overfull : ℕ → ℕ → Answer
+Overfull a b = Err (Refusal.Overfull a b)
+
+pattern abbrev pub Overdrawn : ℕ → Answer
+Overdrawn border = Err (Refusal.Overdrawn border)
+
+pattern abbrev pub Incoherent : Answer
+Incoherent = Err Refusal.Incoherent
+
+pattern abbrev pub Over : ℕ → Answer
+Over t = Err (Refusal.Over t)
+
+pattern abbrev pub OtherSlot : ℕ → Answer
+OtherSlot t = Err (Refusal.OtherSlot t)
+
+pattern abbrev pub WrongKind : ℕ → Answer
+WrongKind t = Err (Refusal.WrongKind t)
+
+pattern abbrev pub NoRoom : ℕ → Answer
+NoRoom bytes = Err (Refusal.NoRoom bytes)
+
+pattern abbrev pub Chopped : ℕ → Answer
+Chopped job = Err (Refusal.Chopped job)
 
 -- the table's column "No."
 abbrev pub number_of : Answer → ℕ
 number_of Accepted = 0
-number_of (Written bytes) = 0
 number_of (Form line) = 1
 number_of SlotLimit = 2
 number_of JobLimit = 3
@@ -27,7 +76,6 @@ number_of (Chopped job) = 17
 -- its column "Place"
 abbrev pub places_of : Answer → List ℕ
 places_of Accepted = 0 ∷ []
-places_of (Written bytes) = bytes ∷ []
 places_of (Form line) = line ∷ []
 places_of SlotLimit = 1 ∷ []
 places_of JobLimit = 2 ∷ []
@@ -48,9 +96,9 @@ places_of (Chopped job) = job ∷ []
 abbrev pub first_place : Answer → ℕ
 first_place answer = get_or (places_of answer) 0 0
 
--- answer 0 means accepted
-unfoldable pub accepted : Answer → Bool
-accepted a = number_of a =? 0
+-- answer 0 means accepted (`zero_accepts` in AnswerLaws)
+unfoldable pub accepted : {T : Type 0} → Result T Refusal → Bool
+accepted a = is_ok a
 
 -- a refusal given exactly when a rule does not hold
 infix 15 ◌unless◌

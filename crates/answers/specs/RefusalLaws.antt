@@ -8,8 +8,7 @@ use Rattle.std.proofs.Math.Bool.{false}
 use mathlib.Core.List.{List, [], ◌∷◌}
 use Rattle.std.proofs.Math.ListN.{length}
 use Rattle.words.specs.Cases.{never}
-use Rattle.answers.specs.declared.Answer.{Answer}
-use Rattle.answers.specs.Answer.{accepted, ◌unless◌, ◌and_then◌, first_refusal}
+use Rattle.answers.specs.Answer.{Answer, accepted, ◌unless◌, ◌and_then◌, first_refusal}
 
 -- ---- tests
 -- one of two tests

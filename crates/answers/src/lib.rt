@@ -1,14 +1,13 @@
-// The answers: one enum for every call of the product. specs/Answer.antt has the number and the places of each case.
+// The answers: `Ok` where a call was accepted, and one enum of refusals for every call of the product.
+// specs/Answer.antt has the number and the places of each.
 #![tactic(auto)]
 
 ghost use Rattle.std.specs.Prelude.{◌≡◌, get_or};
-ghost use Rattle.answers.specs.Answer.{accepted, number_of, places_of, first_place};
+ghost use Rattle.answers.specs.Answer.{number_of, places_of, first_place};
 
-// What a case holds is its place: a line, a job, a slot, a border, a count of bytes.
-#[derive(Clone, Copy)]
-pub enum Answer {
-    Accepted,
-    Written(usize),
+// What a refusal holds is its place: a line, a job, a slot, a border, a count of bytes.
+#[derive(Clone, Copy, PartialEq, Eq)]
+pub enum Refusal {
     Form(u16),
     SlotLimit,
     JobLimit,
@@ -26,66 +25,53 @@ pub enum Answer {
     Chopped(u16),
 }
 
+// The answer of a check: accepted, or the refusal.
+pub type Answer = Result<(), Refusal>;
+
 // The number of an answer, as the table of refusals has it; 0 is accepted.
 pub fn number_of(answer: Answer) -> u16
     ensures { result ≡ number_of answer }
 {
     match answer {
-        Answer::Accepted => 0,
-        Answer::Written(_) => 0,
-        Answer::Form(_) => 1,
-        Answer::SlotLimit => 2,
-        Answer::JobLimit => 3,
-        Answer::Window(_) => 4,
-        Answer::Budget(_) => 5,
-        Answer::TableSlot(_) => 6,
-        Answer::TableCount(_) => 7,
-        Answer::Overfull(_, _) => 8,
-        Answer::Overdrawn(_) => 9,
-        Answer::Incoherent => 10,
-        Answer::Over(_) => 11,
-        Answer::OtherSlot(_) => 12,
-        Answer::WrongKind(_) => 13,
-        Answer::NoRoom(_) => 14,
-        Answer::Chopped(_) => 17,
+        Ok(()) => 0,
+        Err(Refusal::Form(_)) => 1,
+        Err(Refusal::SlotLimit) => 2,
+        Err(Refusal::JobLimit) => 3,
+        Err(Refusal::Window(_)) => 4,
+        Err(Refusal::Budget(_)) => 5,
+        Err(Refusal::TableSlot(_)) => 6,
+        Err(Refusal::TableCount(_)) => 7,
+        Err(Refusal::Overfull(_, _)) => 8,
+        Err(Refusal::Overdrawn(_)) => 9,
+        Err(Refusal::Incoherent) => 10,
+        Err(Refusal::Over(_)) => 11,
+        Err(Refusal::OtherSlot(_)) => 12,
+        Err(Refusal::WrongKind(_)) => 13,
+        Err(Refusal::NoRoom(_)) => 14,
+        Err(Refusal::Chopped(_)) => 17,
     }
 }
 
-// Whether the call was accepted.
-pub fn is_accepted(answer: Answer) -> bool
-    ensures { result ≡ accepted answer }
-{
-    number_of(answer) == 0
-}
-
-fn wide(x: u16) -> usize
-    ensures { result ≡ x }
-{
-    x as usize
-}
-
-// The place of an answer, the first of two.
+// The place of an answer, the first of two; 0 of an accepted one.
 pub fn first_place(answer: Answer) -> usize
     ensures { result ≡ first_place answer }
 {
     match answer {
-        Answer::Accepted => 0,
-        Answer::Written(bytes) => bytes,
-        Answer::Form(line) => wide(line),
-        Answer::SlotLimit => 1,
-        Answer::JobLimit => 2,
-        Answer::Window(job) => wide(job),
-        Answer::Budget(job) => wide(job),
-        Answer::TableSlot(slot) => wide(slot),
-        Answer::TableCount(job) => wide(job),
-        Answer::Overfull(a, _) => wide(a),
-        Answer::Overdrawn(border) => wide(border),
-        Answer::Incoherent => 0,
-        Answer::Over(t) => wide(t),
-        Answer::OtherSlot(t) => wide(t),
-        Answer::WrongKind(t) => wide(t),
-        Answer::NoRoom(bytes) => bytes,
-        Answer::Chopped(job) => wide(job),
+        Ok(()) | Err(Refusal::Incoherent) => 0,
+        Err(Refusal::SlotLimit) => 1,
+        Err(Refusal::JobLimit) => 2,
+        Err(Refusal::NoRoom(bytes)) => bytes,
+        Err(Refusal::Form(place))
+        | Err(Refusal::Window(place))
+        | Err(Refusal::Budget(place))
+        | Err(Refusal::TableSlot(place))
+        | Err(Refusal::TableCount(place))
+        | Err(Refusal::Overfull(place, _))
+        | Err(Refusal::Overdrawn(place))
+        | Err(Refusal::Over(place))
+        | Err(Refusal::OtherSlot(place))
+        | Err(Refusal::WrongKind(place))
+        | Err(Refusal::Chopped(place)) => usize::from(place),
     }
 }
 
@@ -94,22 +80,7 @@ pub fn second_place(answer: Answer) -> usize
     ensures { result ≡ get_or (places_of answer) 1 0 }
 {
     match answer {
-        Answer::Accepted => 0,
-        Answer::Written(_) => 0,
-        Answer::Form(_) => 0,
-        Answer::SlotLimit => 0,
-        Answer::JobLimit => 0,
-        Answer::Window(_) => 0,
-        Answer::Budget(_) => 0,
-        Answer::TableSlot(_) => 0,
-        Answer::TableCount(_) => 0,
-        Answer::Overfull(_, b) => wide(b),
-        Answer::Overdrawn(_) => 0,
-        Answer::Incoherent => 0,
-        Answer::Over(_) => 0,
-        Answer::OtherSlot(_) => 0,
-        Answer::WrongKind(_) => 0,
-        Answer::NoRoom(_) => 0,
-        Answer::Chopped(_) => 0,
+        Err(Refusal::Overfull(_, b)) => usize::from(b),
+        _ => 0,
     }
 }

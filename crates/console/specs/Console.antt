@@ -2,9 +2,7 @@
 -- That all it prints is the program's whole output, whatever the pieces, is in PiecesLaws.
 use Rattle.std.specs.Prelude.{ℕ, zero, suc, ◌+◌, ◌*◌, Bool, true, false, ◌||◌, List, [], ◌∷◌, ◌++◌, length, drop, if◌then◌else◌, Option, None, Some}
 use Rattle.words.specs.Words.{◌≤?◌, ◌<?◌, ◌=?◌}
-use Rattle.answers.specs.declared.Answer.{Answer}
-use Rattle.answers.specs.declared.Answer.TheVariants.{Form}
-use Rattle.answers.specs.Answer.{accepted}
+use Rattle.answers.specs.Answer.{Answer, Form, accepted}
 use Rattle.lines.specs.Lines.{line_length}
 use Rattle.lines.specs.Writing.{put}
 use Rattle.plan.specs.Limits.{max_jobs}

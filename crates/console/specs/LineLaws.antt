@@ -5,9 +5,7 @@ use Rattle.std.proofs.Common.{suc-mul, arith, sym, ap, length-drop, length-take,
 use Rattle.std.specs.Prelude.{Option, None, Some}
 use Rattle.words.specs.Words.{◌≤?◌}
 use Rattle.words.specs.Cases.{by_test}
-use Rattle.answers.specs.declared.Answer.{Answer}
-use Rattle.answers.specs.declared.Answer.TheVariants.{SlotLimit, JobLimit}
-use Rattle.answers.specs.Answer.{accepted, ◌unless◌}
+use Rattle.answers.specs.Answer.{Answer, SlotLimit, JobLimit, accepted, ◌unless◌}
 use Rattle.lines.specs.Lines.{bytes, number, Cursor, got, Reader, give, ◌>>=◌, must, many, value_in, or_form, field}
 use Rattle.lines.specs.RoundLaws.{cursor, unread, got_same, onward_back, must_back}
 use Rattle.lines.specs.ReadingLaws.{number_long, same_length}

@@ -1,8 +1,7 @@
 -- The lines that the programs print.
 use Rattle.std.specs.Prelude.{ℕ, suc, List, [], ◌∷◌, ◌++◌, map, ℤ, pos, negsuc}
 use Prim.Native.String.{String}
-use Rattle.answers.specs.declared.Answer.{Answer}
-use Rattle.answers.specs.Answer.{number_of, places_of}
+use Rattle.answers.specs.Answer.{Answer, number_of, places_of}
 use Rattle.lines.specs.Lines.{bytes, comma, digits, line}
 
 -- a spare, with a minus sign in front where it is below 0

@@ -4,9 +4,7 @@ use Rattle.std.proofs.Common.{arith, ◌∙◌}
 use Rattle.std.proofs.Math.Path.{sym, ap}
 use mathlib.Core.List.{List, [], ◌∷◌, ◌++◌, map, append_assoc}
 use Rattle.std.proofs.Math.ListN.{get_or}
-use Rattle.answers.specs.declared.Answer.{Answer}
-use Rattle.answers.specs.declared.Answer.TheVariants.{Accepted, Written, Form, SlotLimit, JobLimit, Window, Budget, TableSlot, TableCount, Overfull, Overdrawn, Incoherent, Over, OtherSlot, WrongKind, NoRoom, Chopped}
-use Rattle.answers.specs.Answer.{number_of, places_of}
+use Rattle.answers.specs.Answer.{Answer, Accepted, Form, SlotLimit, JobLimit, Window, Budget, TableSlot, TableCount, Overfull, Overdrawn, Incoherent, Over, OtherSlot, WrongKind, NoRoom, Chopped, number_of, places_of}
 use Rattle.intervals.specs.declared.Interval.{Interval}
 use Rattle.executive.specs.declared.Phase.{Phase}
 use Rattle.executive.specs.declared.Run.{Run}
@@ -55,7 +53,6 @@ module _ (key a b : List ℕ) where
 
 one_place : (a : Answer) → (number_of a ≡ 8 → ⊥) → places_of a ≡ get_or (places_of a) 0 0 ∷ []
 one_place Accepted h = refl
-one_place (Written bytes) h = refl
 one_place (Form line) h = refl
 one_place SlotLimit h = refl
 one_place JobLimit h = refl
@@ -74,7 +71,6 @@ one_place (Chopped job) h = refl
 
 two_places : (a : Answer) → number_of a ≡ 8 → places_of a ≡ get_or (places_of a) 0 0 ∷ get_or (places_of a) 1 0 ∷ []
 two_places Accepted h = absurd (omega (arith, h))
-two_places (Written bytes) h = absurd (omega (arith, h))
 two_places (Form line) h = absurd (omega (arith, h))
 two_places SlotLimit h = absurd (omega (arith, h))
 two_places JobLimit h = absurd (omega (arith, h))

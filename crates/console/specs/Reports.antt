@@ -1,12 +1,11 @@
 -- The report on the first line of a text, and its laws: it is the definitions' field, and its line is closed.
-use Rattle.std.specs.Prelude.{ℕ, suc, ◌+◌, ◌-◌, ◌≤◌, ◌≡◌, refl, false, List, [], ◌∷◌, length, get_or, take, drop, Option, Some, None, option_map, ◌==◌}
-use Rattle.std.specs.Prelude.{position, option_and_then}
+use Rattle.std.specs.Prelude.{ℕ, suc, ◌+◌, ◌-◌, ◌≤◌, ◌≡◌, refl, false, List, [], ◌∷◌, length, get_or, take, drop, Option, Some, None, option_map, ◌==◌, position, option_and_then}
 use Rattle.std.specs.List.{position_or_len}
 use Rattle.std.proofs.Common.{add-one, arith, ap, sym, ◌∙◌, drop_of_length-le, take_all, length-drop}
 use borrow.Author.Tests.{lt-ltb, le-ltb, ne_eqb}
 use Rattle.std.proofs.lemmas.Option.{same_Some}
 use Rattle.entries.specs.declared.Kind.{Kind}
-use Rattle.answers.specs.declared.Answer.TheVariants.{Form}
+use Rattle.answers.specs.Answer.{Form}
 use Rattle.words.specs.Words.{◌=?◌}
 use Rattle.words.specs.Cases.{by_less, by_test}
 use Rattle.executive.specs.declared.Report.{Report}
@@ -111,5 +110,5 @@ module _ (t : List ℕ) where
   report_within r next e = pick (value_in report_in (bytes "report=") t) refl (e ∙ report_at_lem t)
     where
       pick : (o : Option Report) → value_in report_in (bytes "report=") t ≡ o → ◌≡◌ {A = Option (Report × ℕ)} (Some (r, next)) (with_next t o) → next ≤ length t
-      pick (Some x) p e = let q : next ≡ suc (line_length t) = ap (λ (y : Report × ℕ). y.1) (same_Some _ _ e) in omega (arith, value_within report_in "report=" t 0 0 0 x p)
+      pick (Some x) p e = let q : next ≡ suc (line_length t) = ap (λ (y : Report × ℕ). y.1) (same_Some _ _ e) in omega (arith, value_within report_in (bytes "report=") t 0 0 0 x p)
       pick None p e = absurd (let z : ◌≡◌ {A = ℕ} 0 1 = cc in omega arith)

@@ -1,10 +1,8 @@
 -- The run program: all that it reads to all that it prints.
-use Rattle.std.specs.Prelude.{ℕ, zero, suc, List, [], ◌∷◌, ◌++◌, length, take, drop, if◌then◌else◌}
-use Rattle.std.specs.Prelude.{Option, None, Some}
-use Rattle.answers.specs.declared.Answer.{Answer}
+use Rattle.std.specs.Prelude.{ℕ, zero, suc, List, [], ◌∷◌, ◌++◌, length, take, drop, if◌then◌else◌, Option, None, Some}
+use Rattle.answers.specs.Answer.{Answer, accepted}
 use Rattle.plan.specs.declared.Plan.{Plan}
 use Rattle.words.specs.Words.{◌=?◌}
-use Rattle.answers.specs.Answer.{accepted}
 use Rattle.lines.specs.Lines.{bytes, comma, digits, same_bytes, number, Cursor, Read, got, refused, field}
 use Rattle.plan_text.specs.Read.{next_plan, start_of}
 use Rattle.entries.specs.declared.Standing.{Standing}

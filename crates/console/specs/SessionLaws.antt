@@ -12,9 +12,7 @@ use Rattle.std.proofs.Math.ListN.{length}
 use borrow.Author.Tests.{lt-ltb, ltb-true, leb-true, eq-eqb, ne_eqb}
 use Rattle.words.specs.Words.{◌≤?◌, ◌<?◌}
 use Rattle.words.specs.Cases.{by_test, by_equal, both_hold}
-use Rattle.answers.specs.declared.Answer.{Answer}
-use Rattle.answers.specs.declared.Answer.TheVariants.{Form, Incoherent, Over}
-use Rattle.answers.specs.Answer.{accepted, ◌unless◌}
+use Rattle.answers.specs.Answer.{Answer, Form, Incoherent, Over, accepted, ◌unless◌}
 use Rattle.answers.specs.RefusalLaws.{unless_holds, both_accept}
 use Rattle.lines.specs.Lines.{bytes, Cursor, Read, got, refused, line_length, lines_in, or_form, value_in, field}
 use Rattle.lines.specs.Reading.{field_at}

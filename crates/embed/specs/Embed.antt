@@ -1,9 +1,8 @@
 -- What the functions for a host program answer: each starts from a text and keeps nothing between calls.
-use Rattle.std.specs.Prelude.{ℕ, List, [], ◌∷◌, get_or, if◌then◌else◌}
+use Rattle.std.specs.Prelude.{ℕ, List, [], ◌∷◌, get_or, if◌then◌else◌, Result, Ok, Err}
 use Rattle.words.specs.Words.{◌=?◌}
-use Rattle.answers.specs.declared.Answer.{Answer}
-use Rattle.answers.specs.declared.Answer.TheVariants.{Accepted}
-use Rattle.answers.specs.Answer.{places_of, accepted, ◌and_then◌}
+use Rattle.answers.specs.declared.Refusal.{Refusal}
+use Rattle.answers.specs.Answer.{Answer, Accepted, places_of, accepted, ◌and_then◌}
 use Rattle.plan_text.specs.Read.{read_plan}
 use Rattle.acceptance.specs.Analysis.{analysis}
 use Rattle.executive.specs.declared.Run.{Run}
@@ -16,8 +15,9 @@ abbrev pub both_places : Answer → List ℕ
 both_places a = get_or (places_of a) 0 0 ∷ get_or (places_of a) 1 0 ∷ []
 
 -- how many bytes were written; none by a refusal
-unfoldable pub bytes_written : Answer → ℕ
-bytes_written a = if accepted a then get_or (places_of a) 0 0 else 0
+unfoldable pub bytes_written : Result ℕ Refusal → ℕ
+bytes_written (Ok bytes) = bytes
+bytes_written (Err refusal) = 0
 
 -- the reader's answer, then the analysis'
 unfoldable pub analysed : List ℕ → Answer

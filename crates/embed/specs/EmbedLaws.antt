@@ -1,11 +1,10 @@
 -- Laws of the host's functions, one for each way out: the reader's refusal, the start's, and the reports one after another.
-use Rattle.std.specs.Prelude.{ℕ, ◌+◌, ◌≤◌, ◌<◌, Bool, true, false, not, List, ◌≡◌, length, drop, get_or}
+use Rattle.std.specs.Prelude.{ℕ, ◌+◌, ◌≤◌, ◌<◌, Bool, true, false, not, List, ◌≡◌, length, drop, get_or, Result}
 use Rattle.std.proofs.Math.Numerals.{add-one}
 use Rattle.std.proofs.Math.Path.{refl}
 use Rattle.std.proofs.Common.{ap, ◌∙◌, drop_of_length-le, drop-cons}
-use Rattle.answers.specs.declared.Answer.{Answer}
-use Rattle.answers.specs.declared.Answer.TheVariants.{Accepted}
-use Rattle.answers.specs.Answer.{accepted}
+use Rattle.answers.specs.declared.Refusal.{Refusal}
+use Rattle.answers.specs.Answer.{Answer, Accepted, accepted}
 use Rattle.plan_text.specs.declared.PlanRead.{PlanRead}
 use Rattle.plan_text.specs.Read.{read_plan}
 use Rattle.plan_text.specs.Write.{write_answer, write_out}
@@ -21,7 +20,7 @@ use Rattle.executive.specs.Step.{step}
 use Rattle.embed.specs.Embed.{bytes_written, analysed, kind_of, walk_from, walked}
 
 -- what the writer makes of the plan that was read
-pub written_again : (text out left : List ℕ) (read : PlanRead) (answer : Answer) (n : ℕ) → read ≡ read_plan text
+pub written_again : (text out left : List ℕ) (read : PlanRead) (answer : Result ℕ Refusal) (n : ℕ) → read ≡ read_plan text
     → answer ≡ write_answer read.plan (length out) → left ≡ write_out read.plan out → n ≡ bytes_written answer
     → (n ≡ bytes_written (write_answer (read_plan text).plan (length out))) × (left ≡ write_out (read_plan text).plan out)
 written_again text out left read answer n er ea el en = rw (← er) (en ∙ ap bytes_written ea, el)

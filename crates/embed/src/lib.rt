@@ -11,7 +11,7 @@ ghost use Rattle.lines.specs.Writing.{put_fit, place_after};
 ghost use Rattle.console.specs.Lists.{check_length, check_written};
 ghost use Rattle.console.specs.Run.{run_output};
 
-use answers::Answer;
+use answers::{Answer, Refusal};
 use entries::Kind;
 use executive::{Report, Run};
 
@@ -38,13 +38,10 @@ pub fn embed_read(text: &[u8], places: &mut [usize; 2]) -> u16
     told(answer, places)
 }
 
-fn bytes_written(answer: Answer) -> usize
+fn bytes_written(answer: Result<usize, Refusal>) -> usize
     ensures { result ≡ bytes_written answer }
 {
-    if answers::is_accepted(answer) {
-        return answers::first_place(answer);
-    }
-    0
+    answer.unwrap_or(0)
 }
 
 // Reads a plan and writes it at the start of `out`: the bytes written. A refused text has the blank plan, which the
@@ -63,10 +60,7 @@ fn analysed(text: &[u8]) -> Answer
     ensures { result ≡ analysed text.now }
 {
     let read = plan_text::reader::read_plan(text);
-    let answer = read.answer;
-    if !answers::is_accepted(answer) {
-        return answer;
-    }
+    read.answer?;
     let p = read.plan;
     let analysis = acceptance::analysis_of(p);
     analysis.answer
@@ -104,30 +98,21 @@ fn walk_from(run: Run, kinds: &[u8]) -> Answer
             slot: here.t,
             kind: kind,
         });
-        let answer = stepped.answer;
-        if !answers::is_accepted(answer) {
-            return answer;
-        }
+        stepped.answer?;
         here = stepped.run;
         i += 1;
     }
-    Answer::Accepted
+    Ok(())
 }
 
 fn walked(text: &[u8], kinds: &[u8]) -> Answer
     ensures { result ≡ walked text.now kinds.now }
 {
     let read = plan_text::reader::read_plan(text);
-    let answer = read.answer;
-    if !answers::is_accepted(answer) {
-        return answer;
-    }
+    read.answer?;
     let p = read.plan;
     let started = executive::start(p);
-    let first = started.answer;
-    if !answers::is_accepted(first) {
-        return first;
-    }
+    started.answer?;
     let run = started.run;
     walk_from(run, kinds)
 }

@@ -2,8 +2,7 @@
 use Rattle.std.specs.Prelude.{ℕ, ◌-◌, ◌<◌, ◌≡◌, true, false, List, length}
 use Rattle.std.proofs.Common.{arith, ◌∙◌, ⊎_elim}
 use Rattle.words.specs.Cases.{by_test}
-use Rattle.answers.specs.declared.Answer.TheVariants.{Accepted}
-use Rattle.answers.specs.Answer.{accepted}
+use Rattle.answers.specs.Answer.{Accepted, accepted}
 use Rattle.windows.specs.Windows.{due_by, within}
 use Rattle.plan.specs.declared.Plan.{Plan}
 use Rattle.acceptance.specs.Acceptance.{acceptance}

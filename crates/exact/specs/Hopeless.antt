@@ -2,7 +2,7 @@
 -- Its words, then the sentence as statements: each is a type, and Exact has a term of it.
 use Rattle.std.specs.Prelude.{ℕ, suc, ◌≤◌, ◌<◌, ◌≡◌, ◌↔◌, true, List, map, length, get_or, if◌then◌else◌}
 use Rattle.words.specs.Words.{◌<?◌, count_up}
-use Rattle.answers.specs.declared.Answer.TheVariants.{Accepted}
+use Rattle.answers.specs.Answer.{Accepted}
 use Rattle.plan.specs.declared.Plan.{Plan}
 use Rattle.plan.specs.Plan.{job_no, is_hi, table_at, table_slots}
 use Rattle.acceptance.specs.Analysis.{analysis}

@@ -3,7 +3,7 @@
 use Rattle.std.specs.Prelude.{ℕ, ◌≡◌, refl, ◌↔◌, Bool, true, false}
 use Rattle.std.proofs.Common.{arith}
 use Rattle.words.specs.Cases.{never}
-use Rattle.answers.specs.declared.Answer.TheVariants.{Accepted, Overdrawn}
+use Rattle.answers.specs.Answer.{Accepted, Overdrawn}
 use Rattle.plan.specs.declared.Plan.{Plan}
 use Rattle.acceptance.specs.Analysis.{analysis}
 use Rattle.acceptance_promise.specs.Plans.{A, B}

@@ -4,9 +4,7 @@ use Rattle.std.proofs.Math.Bool.{true, false}
 use Rattle.std.proofs.Common.{sym, ◌∙◌, ltb-true}
 use Rattle.std.proofs.Math.Path.{ap}
 use Rattle.words.specs.Words.{◌<?◌, ◌=?◌}
-use Rattle.answers.specs.declared.Answer.{Answer}
-use Rattle.answers.specs.declared.Answer.TheVariants.{Accepted, Incoherent, Over, OtherSlot, WrongKind}
-use Rattle.answers.specs.Answer.{accepted, ◌unless◌}
+use Rattle.answers.specs.Answer.{Answer, Accepted, Incoherent, Over, OtherSlot, WrongKind, accepted, ◌unless◌}
 use Rattle.executive.specs.declared.Run.{Run}
 use Rattle.executive.specs.declared.Report.{Report}
 use Rattle.executive.specs.declared.Choice.{Choice}

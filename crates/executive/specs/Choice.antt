@@ -1,11 +1,9 @@
 -- Who gets slot t.
 use Rattle.std.specs.Prelude.{Bool, not, ◌&&◌, pos, if◌then◌else◌}
 use mathlib.Core.List.{List, zip_with}
-use Rattle.answers.specs.declared.Answer.{Answer}
-use Rattle.answers.specs.declared.Answer.TheVariants.{Accepted, Incoherent, Over}
+use Rattle.answers.specs.Answer.{Answer, Accepted, Incoherent, Over, accepted, ◌unless◌, ◌and_then◌}
 use Rattle.words.specs.Words.{◌≤?◌, ◌<?◌, below0, above0}
 use Rattle.plan.specs.Plan.{jobs_of, table_at, is_hi}
-use Rattle.answers.specs.Answer.{accepted, ◌unless◌, ◌and_then◌}
 use Rattle.executive.specs.declared.Phase.{Phase}
 use Rattle.executive.specs.declared.Phase.TheVariants.{T, H}
 use Rattle.executive.specs.declared.Run.{Run}

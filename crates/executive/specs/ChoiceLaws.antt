@@ -7,7 +7,7 @@ use Rattle.words.specs.Words.{◌≤?◌, below0, above0}
 use Rattle.plan.specs.Limits.{max_jobs}
 use Rattle.std.specs.Int.Count.{ones}
 use Rattle.spares.specs.Spares.{Spare}
-use Rattle.answers.specs.declared.Answer.TheVariants.{Accepted}
+use Rattle.answers.specs.Answer.{Accepted}
 use Rattle.executive.specs.declared.Choice.{Choice}
 use Rattle.executive.specs.declared.Run.{Run}
 use Rattle.ready.specs.declared.Slot.{Slot}

@@ -1,10 +1,9 @@
 -- The run: the fresh spares, the blank run, and a new run.
 use Rattle.std.specs.Prelude.{ℕ, ◌-◌, true, false, List, get_or, replicate, if◌then◌else◌}
 use Rattle.plan.specs.declared.Plan.{Plan}
-use Rattle.answers.specs.declared.Answer.TheVariants.{Accepted}
+use Rattle.answers.specs.Answer.{Accepted, accepted}
 use Rattle.plan.specs.Limits.{max_jobs}
 use Rattle.plan.specs.Plan.{jobs_of, blank_plan}
-use Rattle.answers.specs.Answer.{accepted}
 use Rattle.spares.specs.Spares.{Spare, row, no_spares, current}
 use Rattle.spares.specs.Work.{work_each}
 use Rattle.acceptance.specs.Acceptance.{acceptance}

@@ -3,8 +3,7 @@ use Rattle.std.specs.Prelude.{Bool, List, ◌≡◌, replicate, if◌then◌else
 use Rattle.std.proofs.Math.Bool.{true, false}
 use Rattle.std.proofs.Math.Path.{refl, sym, ap}
 use Rattle.std.proofs.Common.{◌∙◌}
-use Rattle.answers.specs.declared.Answer.TheVariants.{Accepted}
-use Rattle.answers.specs.Answer.{accepted}
+use Rattle.answers.specs.Answer.{Accepted, accepted}
 use Rattle.plan.specs.declared.Plan.{Plan}
 use Rattle.plan.specs.Limits.{max_jobs}
 use Rattle.acceptance.specs.declared.Analysis.{Analysis}

@@ -1,11 +1,9 @@
 -- One report, applied.
 use Rattle.std.specs.Prelude.{ℕ, ◌+◌, ◌-◌, Bool, true, false, ◌&&◌, List, [], ◌∷◌, set, if◌then◌else◌}
 use Rattle.plan.specs.declared.Job.{Job}
-use Rattle.answers.specs.declared.Answer.{Answer}
-use Rattle.answers.specs.declared.Answer.TheVariants.{Accepted, OtherSlot, WrongKind}
+use Rattle.answers.specs.Answer.{Answer, Accepted, OtherSlot, WrongKind, accepted, ◌unless◌, ◌and_then◌}
 use Rattle.words.specs.Words.{◌=?◌}
 use Rattle.plan.specs.Plan.{jobs_of, job_no, counts_at}
-use Rattle.answers.specs.Answer.{accepted, ◌unless◌, ◌and_then◌}
 use Rattle.entries.specs.declared.Entry.{Entry}
 use Rattle.executive.specs.declared.Phase.{Phase}
 use Rattle.executive.specs.declared.Phase.TheVariants.{T, H}

@@ -53,7 +53,7 @@ impl Run {
     {
         let p = self.plan;
         let answer = well_formed::well_formed(p);
-        if !answers::is_accepted(answer) {
+        if answer.is_err() {
             return false;
         }
         if p.slots < self.t {

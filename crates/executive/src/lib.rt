@@ -9,7 +9,7 @@ ghost use Rattle.executive.specs.Choice.{can_go_on, made_choice, no_choice, choo
 ghost use Rattle.executive.specs.Step.{next_run, refused_step, step};
 ghost use Rattle.executive.specs.Sound.{Sound, Countable};
 
-use answers::Answer;
+use answers::{Answer, Refusal};
 use entries::{Entry, Kind};
 use intervals::Layout;
 use plan::Plan;
@@ -92,7 +92,7 @@ pub fn start(p: Plan) -> Started
 {
     let analysis = acceptance::analysis_of(p);
     let answer = analysis.answer;
-    if !answers::is_accepted(answer) {
+    if answer.is_err() {
         let blank = blank_run();
         return Started {
             answer: answer,
@@ -111,7 +111,7 @@ pub fn start(p: Plan) -> Started
         entry: entry,
     };
     Started {
-        answer: Answer::Accepted,
+        answer: Ok(()),
         run: run,
     }
 }
@@ -145,12 +145,12 @@ impl Run {
         ensures { result ≡ can_go_on self }
     {
         if !self.coherent_in(layout) {
-            return Answer::Incoherent;
+            return Err(Refusal::Incoherent);
         }
         if self.t < self.plan.slots {
-            return Answer::Accepted;
+            return Ok(());
         }
-        Answer::Over(self.t)
+        Err(Refusal::Over(self.t))
     }
 
     // The choice of a run that can go on; `layout` is that of the run's plan.
@@ -165,7 +165,7 @@ impl Run {
         let ready = self.ready();
         let slot = self.chosen(hi, lo, ready);
         Choice {
-            answer: Answer::Accepted,
+            answer: Ok(()),
             slot: slot,
             ready: u32::count_ones(ready),
             hi: hi,
@@ -180,7 +180,7 @@ impl Run {
         let p = self.plan;
         let layout = intervals::layout_of(p);
         let answer = self.can_go_on(layout);
-        if !answers::is_accepted(answer) {
+        if answer.is_err() {
             return no_choice(answer);
         }
         self.made(layout)
@@ -216,21 +216,21 @@ impl Run {
         let p = self.plan;
         let layout = intervals::layout_of(p);
         let answer = self.can_go_on(layout);
-        if !answers::is_accepted(answer) {
+        if answer.is_err() {
             return self.refused(answer);
         }
         if report.slot != self.t {
-            return self.refused(Answer::OtherSlot(self.t));
+            return self.refused(Err(Refusal::OtherSlot(self.t)));
         }
         let made = self.made(layout);
         let slot = made.slot;
         let kind = report.kind;
         if !kind_fits(slot, kind) {
-            return self.refused(Answer::WrongKind(self.t));
+            return self.refused(Err(Refusal::WrongKind(self.t)));
         }
         let next = self.next_run(layout, slot, kind);
         Stepped {
-            answer: Answer::Accepted,
+            answer: Ok(()),
             run: next,
             choice: made,
         }

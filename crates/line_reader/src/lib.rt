@@ -7,7 +7,7 @@ ghost use Rattle.std.specs.Prelude.{◌≡◌, take, drop};
 ghost use Rattle.lines.specs.Lines.{number};
 ghost use Rattle.lines.specs.Reading.{value_at, field_at};
 
-use lines::reading::{ValueAt, key_at, line_end, read_number};
+use lines::reading::{ValueAt, first_lf, key_at, read_number};
 
 #[derive(Clone, Copy)]
 pub struct LineReader<'a> {
@@ -24,14 +24,11 @@ fn value_at(text: &[u8], at: usize, key: &[u8]) -> Option<ValueAt>
         return None;
     }
     let start = at + key.len();
-    let end = line_end(text, start);
-    if end >= text.len() {
-        return None;
-    }
+    let len = first_lf(text.get(start..)?)?;
     Some(ValueAt {
         start,
-        len: end - start,
-        next: end + 1,
+        len,
+        next: start + len + 1,
     })
 }
 

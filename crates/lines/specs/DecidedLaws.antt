@@ -12,9 +12,7 @@ use Rattle.std.proofs.lemmas.List.{take-append-le}
 use Rattle.std.proofs.Math.Seq.{drop-append-le}
 use Rattle.words.specs.Words.{◌=?◌}
 use Rattle.words.specs.Cases.{by_test, by_less}
-use Rattle.answers.specs.declared.Answer.{Answer}
-use Rattle.answers.specs.declared.Answer.TheVariants.{Form}
-use Rattle.answers.specs.Answer.{accepted, first_place}
+use Rattle.answers.specs.Answer.{Answer, Form, accepted, first_place}
 use Rattle.lines.specs.Lines.{bytes, LF, Cursor, Read, got, refused, Reader, give, onward, ◌>>=◌, must, or_form, many, line_length, lines_in, begins, value_in, field}
 use Rattle.lines.specs.RoundLaws.{cursor, unread, got_same, onward_there, onward_back}
 use Rattle.lines.specs.NumberLaws.{nothing}

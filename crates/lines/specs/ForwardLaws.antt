@@ -4,8 +4,7 @@ use Rattle.std.specs.Prelude.{◌≡◌, refl, Bool, true, false, ◌&&◌, List
 use Rattle.std.proofs.Common.{ap, ◌∙◌, arith, length-drop, drop-drop, ltb-true}
 use Rattle.std.specs.Prelude.{Option, None, Some}
 use Prim.Native.String.{String}
-use Rattle.answers.specs.declared.Answer.{Answer}
-use Rattle.answers.specs.Answer.{accepted}
+use Rattle.answers.specs.Answer.{Answer, accepted}
 use Rattle.words.specs.Words.{◌<?◌}
 use Rattle.lines.specs.Lines.{bytes, Cursor, Read, got, refused, Reader, onward, must, many, line_length, begins, or_form, value_in, field}
 

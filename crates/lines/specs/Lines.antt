@@ -1,13 +1,10 @@
 -- Lines `key=value` of bytes: how a line is written, and how lines are read one after the other.
-use Rattle.std.specs.Prelude.{ℕ, zero, suc, ◌+◌, ◌-◌, ◌*◌, ◌/◌, ◌%◌, Bool, true, false, ◌&&◌, ◌||◌, List, [], ◌∷◌, ◌++◌, length, take, drop, if◌then◌else◌}
+use Rattle.std.specs.Prelude.{ℕ, zero, suc, ◌+◌, ◌-◌, ◌*◌, ◌/◌, ◌%◌, Bool, true, false, ◌&&◌, ◌||◌, List, [], ◌∷◌, ◌++◌, length, take, drop, if◌then◌else◌, Option, None, Some}
 use Prim.Native.Char.{code}
 use Prim.Native.String.{String}
 use Prim.Native.String as Str
-use Rattle.std.specs.Prelude.{Option, None, Some}
-use Rattle.answers.specs.declared.Answer.{Answer}
-use Rattle.answers.specs.declared.Answer.TheVariants.{Form}
+use Rattle.answers.specs.Answer.{Answer, Form, accepted, ◌unless◌}
 use Rattle.words.specs.Words.{◌≤?◌, ◌<?◌, ◌=?◌}
-use Rattle.answers.specs.Answer.{accepted, ◌unless◌}
 
 -- the bytes of a text in quotes
 abbrev pub bytes : String → List ℕ

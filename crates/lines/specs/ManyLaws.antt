@@ -6,9 +6,7 @@ use Rattle.std.proofs.Common.{sym, ap, ◌∙◌, append-nil, add-zero, mul-zero
 use Rattle.std.proofs.Math.Nat.{sub-zero}
 use Rattle.std.proofs.lemmas.List.{length-replicate}
 use Rattle.std.proofs.Math.Seq.{append_snoc}
-use Rattle.answers.specs.declared.Answer.{Answer}
-use Rattle.answers.specs.declared.Answer.TheVariants.{Accepted}
-use Rattle.answers.specs.Answer.{accepted}
+use Rattle.answers.specs.Answer.{Answer, Accepted, accepted}
 use Rattle.words.specs.Words.{filled}
 use Rattle.lines.specs.Lines.{Cursor, Read, got, refused, Reader, give, onward, many}
 use Rattle.lines.specs.Reading.{standing, filled_read, ArrayHere}

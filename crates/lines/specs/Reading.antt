@@ -1,10 +1,9 @@
 -- What the reading functions answer, by place: where a value stands in a text, and the number on a line.
 -- The text from place `at` on is `drop at text`; its next line starts at `line_after text at`.
 use Rattle.std.specs.Prelude.{ℕ, ◌+◌, ◌-◌, ◌≤◌, ◌≡◌, ◌&&◌, List, length, take, drop, Option, Some, None, option_map, if◌then◌else◌}
-use Rattle.answers.specs.declared.Answer.{Answer}
-use Rattle.answers.specs.Answer.{accepted}
+use Rattle.answers.specs.Answer.{Answer, accepted}
 use Rattle.words.specs.Words.{◌<?◌, filled}
-use Rattle.lines.specs.Lines.{Cursor, Read, got, refused, line_length, begins, value_in}
+use Rattle.lines.specs.Lines.{Cursor, Read, got, refused, Reader, line_length, begins, value_in, or_form}
 use Rattle.lines.specs.declared.reading.ValueAt.{ValueAt}
 
 -- where the line after the one at `at` starts
@@ -28,6 +27,10 @@ unfoldable pub field_at : {A : Type 0} → (List ℕ → Option A) → List ℕ 
 field_at meaning text at key = option_map (λ a. (a, line_after text at)) (value_in meaning key (drop at text))
 
 -- ---- places against the definitions' cursors
+
+-- the value of the next line, with its key as bytes
+abbrev pub line_with : {A : Type 0} → (List ℕ → Option A) → List ℕ → Reader A
+line_with meaning key = λ here. or_form (value_in meaning key here.text) here
 
 -- a reader that stands at a place of a text, before line l
 abbrev pub standing : List ℕ → ℕ → ℕ → Cursor

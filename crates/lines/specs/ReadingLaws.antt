@@ -1,20 +1,20 @@
 -- Laws of reading by place: the ways to find a value, which texts are numbers, and that a field at a place is the definitions' field.
 use Rattle.std.proofs.Math.Path.{◌≡◌, refl}
-use Rattle.std.proofs.Common.{sym, ap, zero-le, suc-le-suc, length-take, drop_of_length-le, take_all}
-use Rattle.std.specs.Prelude.{List, [], ◌∷◌, Bool, ◌&&◌, ◌||◌, get_or, take, drop, eqb, Option, None, Some, option_map, option_and_then, if◌then◌else◌}
+use Rattle.std.proofs.Common.{sym, ap, zero-le, suc-le-suc, length-take, take_all}
+use Rattle.std.specs.Prelude.{List, [], ◌∷◌, Bool, ◌&&◌, ◌||◌, get_or, take, drop, eqb, Option, None, Some, position, option_map, option_and_then, if◌then◌else◌}
 use Rattle.std.proofs.lemmas.Option.{none-some, same_Some}
 use Rattle.std.proofs.Math.Bool.{true, false}
 use Prim.Native.Nat.{ℕ, zero, suc, ◌+◌, ◌-◌, ◌≤◌, ◌<◌}
-use Prim.Native.String.{String}
 use Rattle.std.proofs.Math.Nat.{sub-zero}
 use native.Mathlib.Omega.{arith}
 use Rattle.std.proofs.Math.ListN.{length, length-drop}
 use Rattle.std.proofs.Math.Seq.{drop-drop, take-nil}
-use borrow.Author.Tests.{eqb-true, eqb-false, eq-eqb, ne_eqb, le-ltb, lt-ltb, ltb-true}
-use Rattle.answers.specs.declared.Answer.TheVariants.{Form}
+use borrow.Author.Tests.{eq-eqb, ne_eqb, le-ltb, lt-ltb, ltb-true}
+use Rattle.answers.specs.Answer.{Form}
 use Rattle.words.specs.Words.{◌<?◌}
-use Rattle.lines.specs.Lines.{bytes, LF, got, refused, line_length, begins, same_bytes, number, number_from, or_form, value_in, field}
-use Rattle.lines.specs.Reading.{line_after, line_here, value_at, field_at, standing}
+use Rattle.lines.specs.Lines.{LF, got, refused, line_length, begins, same_bytes, number, number_from, or_form, value_in}
+use Rattle.lines.specs.Reading.{line_with, line_after, line_here, value_at, field_at, standing}
+use Rattle.lines.specs.TextLaws.{lf_at, lf_nowhere}
 use Rattle.lines.specs.declared.reading.ValueAt.{ValueAt}
 
 differ : false ≡ true → ⊥
@@ -32,15 +32,6 @@ begins_length (k ∷ key) (b ∷ s) h = suc-le-suc (begins_length key s (and_rig
 
 -- ---- the same bytes
 
-eqb_turned : (m n : ℕ) → eqb m n ≡ eqb n m
-eqb_turned m n = turned (eqb m n) (eqb n m) refl refl
-  where
-    turned : (a b : Bool) → eqb m n ≡ a → eqb n m ≡ b → a ≡ b
-    turned true true p q = refl
-    turned true false p q = absurd (eqb-false n m q (sym (eqb-true m n p)))
-    turned false true p q = absurd (eqb-false m n p (sym (eqb-true n m q)))
-    turned false false p q = refl
-
 pub same_length : (s word : List ℕ) → (length s ≡ length word → ⊥) → false ≡ same_bytes s word
 unfolding same_bytes
 same_length [] [] h = absurd (h refl)
@@ -52,14 +43,7 @@ same_length (a ∷ s) (b ∷ word) h = rw (← same_length s word (λ e. h (ap s
     and_no true = refl
     and_no false = refl
 
-pub same_begins : (s word : List ℕ) → length s ≡ length word → begins word s ≡ same_bytes s word
-unfolding same_bytes begins
-same_begins [] [] h = refl
-same_begins [] (b ∷ word) h = absurd (omega arith)
-same_begins (a ∷ s) [] h = absurd (omega arith)
-same_begins (a ∷ s) (b ∷ word) h = rw (eqb_turned b a, same_begins s word (omega arith))
-
--- ---- where a value stands: the line has the key, and `end` is the place of the LF after it, or the text's end
+-- ---- where a value stands: the line has the key, and the LF is looked for behind it
 
 -- what is left of a line behind its key is as long as the line without the key
 pub key_length : (key s : List ℕ) → begins key (take (line_length s) s) ≡ true → line_length s ≡ length key + line_length (drop (length key) s)
@@ -93,34 +77,32 @@ module _ (t : List ℕ) (at : ℕ) (key : List ℕ) where
     unfolding line_here
     key_fits = omega (arith, simp (length-take, length-drop) at (begins_length key (line_here t at) b))
 
-    module _ (end : ℕ) (ends : end ≡ at + length key + line_length (drop (at + length key) t)) where
-      same : end ≡ at + line_length (drop at t)
-      unfolding line_here
-      same = omega (arith, rw drop-drop at (key_length key (drop at t) b))
+    -- the rest of the text behind the key, in which the LF is looked for
+    behind : drop (at + length key) t ≡ take (length t - (at + length key)) (drop (at + length key) t)
+    behind = sym (take_all (length t - (at + length key)) (drop (at + length key) t) (omega (arith, length-drop (at + length key) t)))
 
-      pub value_unclosed : length t ≤ end → value_at t at key ≡ None
-      unfolding value_at
-      value_unclosed h = rw (le-ltb (line_length (drop at t)) (length (drop at t)) (omega (arith, same, length-drop at t)))
+    same : line_length (drop at t) ≡ length key + line_length (drop (at + length key) t)
+    unfolding line_here
+    same = rw drop-drop at (key_length key (drop at t) b)
 
-      pub value_found : end < length t → value_at t at key ≡ Some (record { start = at + length key; len = end - (at + length key); next = end + 1 })
-      unfolding value_at line_here
-      value_found h =
-          let closed : (line_length (drop at t) <? length (drop at t)) ≡ true = lt-ltb (line_length (drop at t)) (length (drop at t)) (omega (arith, same, length-drop at t)) in
-          let n : line_length (drop at t) - length key ≡ end - (at + length key) = omega (arith, same) in
-          let m : line_after t at ≡ end + 1 = omega (arith, same) in
-          rw (closed, b, n, m)
+    longer : length (drop at t) ≡ length key + length (drop (at + length key) t)
+    longer = let f = key_fits in omega (arith, f, length-drop at t, length-drop (at + length key) t)
 
--- ---- a part that runs past the end
+    pub value_unclosed : None ≡ position (λ c. eqb c 10) (take (length t - (at + length key)) (drop (at + length key) t)) → value_at t at key ≡ None
+    unfolding value_at
+    value_unclosed e =
+        let h = lf_nowhere (drop (at + length key) t) (rw behind e) in
+        rw (le-ltb (line_length (drop at t)) (length (drop at t)) (omega (arith, same, longer, h)))
 
-module _ (t : List ℕ) (start len : ℕ) where
-  pub part_none : length t < start → [] ≡ take len (drop start t)
-  part_none h = let d : length t ≤ start = omega arith in rw (drop_of_length-le t d, take-nil len)
-
-  pub part_short : length t - start < len → take (length t - start) (drop start t) ≡ take len (drop start t)
-  part_short h =
-      let a : length (drop start t) ≤ length t - start = omega (arith, length-drop start t) in
-      let b : length (drop start t) ≤ len = omega (arith, length-drop start t) in
-      rw (take_all (length t - start) (drop start t) a, take_all len (drop start t) b)
+    pub value_found : (n : ℕ) → Some n ≡ position (λ c. eqb c 10) (take (length t - (at + length key)) (drop (at + length key) t))
+        → value_at t at key ≡ Some (record { start = at + length key; len = n; next = at + length key + n + 1 })
+    unfolding value_at line_here
+    value_found n e =
+        let h = lf_at (drop (at + length key) t) n (rw behind e) in
+        let closed : (line_length (drop at t) <? length (drop at t)) ≡ true = lt-ltb (line_length (drop at t)) (length (drop at t)) (omega (arith, same, longer, h.1)) in
+        let l : line_length (drop at t) - length key ≡ n = omega (arith, same, h.0) in
+        let m : line_after t at ≡ at + length key + n + 1 = omega (arith, same, h.0) in
+        rw (closed, b, l, m)
 
 -- ---- which texts are numbers
 
@@ -206,25 +188,25 @@ module _ {A : Type 0} (meaning : List ℕ → Option A) (t : List ℕ) (at : ℕ
 
 -- ---- a field at a place is the definitions' field
 
-module _ {A : Type 0} (meaning : List ℕ → Option A) (key : String) (t : List ℕ) (at l m : ℕ) where
+module _ {A : Type 0} (meaning : List ℕ → Option A) (key : List ℕ) (t : List ℕ) (at l m : ℕ) where
   -- the line of a value is closed
-  pub value_within : (v : A) → value_in meaning (bytes key) (drop at t) ≡ Some v → line_after t at ≤ length t
+  pub value_within : (v : A) → value_in meaning key (drop at t) ≡ Some v → line_after t at ≤ length t
   unfolding value_in
-  value_within v e = inner (line_length (drop at t) <? length (drop at t)) (begins (bytes key) (take (line_length (drop at t)) (drop at t))) refl e
+  value_within v e = inner (line_length (drop at t) <? length (drop at t)) (begins key (take (line_length (drop at t)) (drop at t))) refl e
     where
       inner : (b d : Bool) → (line_length (drop at t) <? length (drop at t)) ≡ b
-          → (if b && d then meaning (drop (length (bytes key)) (take (line_length (drop at t)) (drop at t))) else None) ≡ Some v
+          → (if b && d then meaning (drop (length key) (take (line_length (drop at t)) (drop at t))) else None) ≡ Some v
           → line_after t at ≤ length t
       inner true d p e = omega (arith, simp length-drop at (ltb-true (line_length (drop at t)) (length (drop at t)) p))
       inner false d p e = absurd (none-some v e)
 
   -- a value that was read, and the place after its line: the reader then stands before the next line, m
-  pub field_got : m ≡ suc l → (v : A × ℕ) → Some v ≡ field_at meaning t at (bytes key)
-      → (field meaning key (standing t at l) ≡ got v.0 (standing t v.1 m)) × (v.1 ≤ length t)
-  unfolding field field_at
-  field_got n v e = inner (value_in meaning (bytes key) (drop at t)) refl e
+  pub field_got : m ≡ suc l → (v : A × ℕ) → Some v ≡ field_at meaning t at key
+      → (line_with meaning key (standing t at l) ≡ got v.0 (standing t v.1 m)) × (v.1 ≤ length t)
+  unfolding field_at
+  field_got n v e = inner (value_in meaning key (drop at t)) refl e
     where
-      inner : (o : Option A) → value_in meaning (bytes key) (drop at t) ≡ o → Some v ≡ option_map (λ a. (a, line_after t at)) o
+      inner : (o : Option A) → value_in meaning key (drop at t) ≡ o → Some v ≡ option_map (λ a. (a, line_after t at)) o
           → (or_form o (standing t at l) ≡ got v.0 (standing t v.1 m)) × (v.1 ≤ length t)
       inner (Some a) p e =
           let w : v ≡ (a, line_after t at) = same_Some v (a, line_after t at) e in
@@ -232,9 +214,9 @@ module _ {A : Type 0} (meaning : List ℕ → Option A) (key : String) (t : List
           rw w (rw (drop-drop, k, n), value_within a p)
       inner None p e = absurd (none-some v (sym e))
 
-  pub field_refused : None ≡ field_at meaning t at (bytes key) → field meaning key (standing t at l) ≡ refused (Form l)
-  unfolding field field_at
-  field_refused e = inner (value_in meaning (bytes key) (drop at t)) e
+  pub field_refused : None ≡ field_at meaning t at key → line_with meaning key (standing t at l) ≡ refused (Form l)
+  unfolding field_at
+  field_refused e = inner (value_in meaning key (drop at t)) e
     where
       inner : (o : Option A) → ◌≡◌ {A = Option (A × ℕ)} None (option_map (λ a. (a, line_after t at)) o) → or_form o (standing t at l) ≡ refused (Form l)
       inner (Some a) e = absurd (none-some _ e)

@@ -13,9 +13,7 @@ use Rattle.std.proofs.Math.ListN.{length, take, drop, length-append}
 use Rattle.std.proofs.Math.Seq.{take-append_seam, drop-append_seam, drop-append-add}
 use borrow.Author.Tests.{eq-eqb, ne_eqb, eqb-true, lt-ltb, ltb-true}
 use Rattle.words.specs.Words.{◌<?◌, ◌=?◌}
-use Rattle.answers.specs.declared.Answer.{Answer}
-use Rattle.answers.specs.declared.Answer.TheVariants.{Form}
-use Rattle.answers.specs.Answer.{accepted}
+use Rattle.answers.specs.Answer.{Answer, Form, accepted}
 use Rattle.lines.specs.Lines.{bytes, LF, line, number_line, digits, number, Cursor, Read, got, refused, Reader, give, onward, ◌>>=◌, must, or_form, many, line_length, begins, value_in, field, nothing_after}
 use Rattle.lines.specs.NumberLaws.{nothing, digits_one, digits_more, number_digits, digits_number}
 

@@ -1,9 +1,7 @@
 -- The rules for a plan's numbers, job by job: limits, windows, budgets.
 use Rattle.std.specs.Prelude.{ℕ, Bool, ◌&&◌, ◌||◌, map}
 use Rattle.words.specs.Words.{◌≤?◌, ◌<?◌, ◌=?◌, every}
-use Rattle.answers.specs.declared.Answer.{Answer}
-use Rattle.answers.specs.declared.Answer.TheVariants.{SlotLimit, JobLimit}
-use Rattle.answers.specs.Answer.{◌unless◌}
+use Rattle.answers.specs.Answer.{Answer, SlotLimit, JobLimit, ◌unless◌}
 use Rattle.plan.specs.declared.Job.{Job}
 use Rattle.plan.specs.declared.Plan.{Plan}
 use Rattle.plan.specs.Limits.{max_slots, max_jobs, one_to}

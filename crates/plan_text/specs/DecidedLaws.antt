@@ -5,9 +5,7 @@ use Rattle.std.proofs.lemmas.Bool.{false≢true}
 use Rattle.std.specs.Prelude.{None}
 use Rattle.words.specs.Words.{◌≤?◌}
 use Rattle.words.specs.Cases.{by_test, both_hold}
-use Rattle.answers.specs.declared.Answer.{Answer}
-use Rattle.answers.specs.declared.Answer.TheVariants.{SlotLimit, JobLimit}
-use Rattle.answers.specs.Answer.{accepted, ◌unless◌, first_place}
+use Rattle.answers.specs.Answer.{Answer, SlotLimit, JobLimit, accepted, ◌unless◌, first_place}
 use Rattle.answers.specs.RefusalLaws.{neither_true}
 use Rattle.lines.specs.Lines.{bytes, number, Read, got, refused, Reader, ◌>>=◌, must, lines_in, nothing_after}
 use Rattle.lines.specs.RoundLaws.{cursor, unread}
@@ -112,6 +110,6 @@ text_stays s u le = after (next_plan (start_of s)) refl
     after (refused x) e = rw (plan_stays s u x (omega arith) e, e)
     after (got p next) e =
         let g = plan_decided.goes 1 s u p next.line_no next.text e in
-        let Some : length next.text ≡ 0 → ⊥ = (λ z. omega (arith, g.1)) in
+        let one_more : length next.text ≡ 0 → ⊥ = (λ z. omega (arith, g.1)) in
         let more : length (next.text ++ u) ≡ 0 → ⊥ = (λ z. omega (arith, g.1, length-append next.text u)) in
-        rw (g.0, e, ne_eqb (length (next.text ++ u)) 0 more, ne_eqb (length next.text) 0 Some)
+        rw (g.0, e, ne_eqb (length (next.text ++ u)) 0 more, ne_eqb (length next.text) 0 one_more)

@@ -2,9 +2,7 @@
 -- written, and the plan cleared beyond n and N. The laws of them are in RoundLaws and WriteLaws.
 use Rattle.std.specs.Prelude.{ℕ, ◌≤◌, ◌≡◌, true, List, [], ◌∷◌}
 use Rattle.words.specs.Words.{◌≤?◌, filled}
-use Rattle.answers.specs.declared.Answer.{Answer}
-use Rattle.answers.specs.declared.Answer.TheVariants.{Form}
-use Rattle.answers.specs.Answer.{◌unless◌}
+use Rattle.answers.specs.Answer.{Answer, Form, ◌unless◌}
 use Rattle.plan.specs.declared.Job.{Job}
 use Rattle.plan.specs.declared.Plan.{Plan}
 use Rattle.plan.specs.Limits.{max_slots, max_jobs, max_number, one_to}

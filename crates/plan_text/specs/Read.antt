@@ -6,11 +6,10 @@ use Rattle.plan.specs.declared.Level.{Level}
 use Rattle.plan.specs.declared.Level.TheVariants.{Lo, Hi}
 use Rattle.plan.specs.declared.Job.{Job}
 use Rattle.plan.specs.declared.Plan.{Plan}
-use Rattle.answers.specs.declared.Answer.TheVariants.{Accepted, SlotLimit, JobLimit}
+use Rattle.answers.specs.Answer.{Accepted, SlotLimit, JobLimit, ◌unless◌}
 use Rattle.words.specs.Words.{filled}
 use Rattle.plan.specs.Limits.{max_slots, max_jobs, one_to}
 use Rattle.plan.specs.Plan.{jobs_of, slots_of, blank_job, blank_plan}
-use Rattle.answers.specs.Answer.{◌unless◌}
 use Rattle.plan_text.specs.declared.PlanRead.{PlanRead}
 use Rattle.lines.specs.Lines.{bytes, line, number_line, same_bytes, number, Cursor, Read, got, refused, Reader, give, ◌>>=◌, must, many, field, nothing_after}
 

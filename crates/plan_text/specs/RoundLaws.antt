@@ -4,9 +4,7 @@ use Rattle.std.proofs.Common.{arith, sym, ap, ◌∙◌, take_at, eqb-true, leb-
 use mathlib.Core.List.{List, [], ◌∷◌, ◌++◌, flat_map, append_assoc}
 use Rattle.std.specs.Prelude.{None, Some}
 use Rattle.words.specs.Words.{◌≤?◌, ◌=?◌, filled}
-use Rattle.answers.specs.declared.Answer.{Answer}
-use Rattle.answers.specs.declared.Answer.TheVariants.{SlotLimit, JobLimit}
-use Rattle.answers.specs.Answer.{accepted, ◌unless◌}
+use Rattle.answers.specs.Answer.{Answer, SlotLimit, JobLimit, accepted, ◌unless◌}
 use Rattle.plan.specs.declared.Level.{Level}
 use Rattle.plan.specs.declared.Level.TheVariants.{Lo, Hi}
 use Rattle.plan.specs.declared.Job.{Job}

@@ -1,14 +1,13 @@
 -- The round trip, over the definitions and over what the functions promise: what is written reads back to an equal plan, what is read writes back to the same bytes, and a plan has one text.
-use Rattle.std.specs.Prelude.{ℕ, ◌≤◌, ◌≡◌, refl, Bool, true, false, drop, if◌then◌else◌}
+use Rattle.std.specs.Prelude.{ℕ, ◌≤◌, ◌≡◌, refl, Bool, true, false, drop, if◌then◌else◌, Result}
 use Rattle.std.proofs.Common.{arith, ◌∙◌, length-take-le, eqb-true}
 use Rattle.std.proofs.Math.Path.{sym, ap}
 use mathlib.Core.List.{List, [], ◌∷◌, ◌++◌, append-nil}
 use Rattle.std.proofs.Math.ListN.{length, take}
 use Rattle.std.proofs.Math.Seq.{take_at, take-append_seam, drop-append_seam}
 use Rattle.words.specs.Words.{◌=?◌}
-use Rattle.answers.specs.declared.Answer.{Answer}
-use Rattle.answers.specs.declared.Answer.TheVariants.{Accepted, Written, Form}
-use Rattle.answers.specs.Answer.{accepted, ◌unless◌}
+use Rattle.answers.specs.declared.Refusal.{Refusal}
+use Rattle.answers.specs.Answer.{Answer, Accepted, Form, accepted, ◌unless◌}
 use Rattle.plan.specs.declared.Plan.{Plan}
 use Rattle.plan.specs.Limits.{max_slots, max_jobs}
 use Rattle.plan.specs.Plan.{jobs_of, slots_of, SamePlan}
@@ -16,7 +15,7 @@ use Rattle.lines.specs.Lines.{Cursor, Read, got, refused, nothing_after, must, f
 use Rattle.lines.specs.RoundLaws.{onward_there, onward_back, got_same, must_back, Refuses, give_refuses, field_refuses, then_refuses, must_refuses, many_refuses, nothing_refuses}
 use Rattle.plan_text.specs.declared.PlanRead.{PlanRead}
 use Rattle.plan_text.specs.Read.{plan_text, level_in, next_job, next_plan, only_plan, start_of, plan_read, read_plan}
-use Rattle.plan_text.specs.Write.{write_answer, write_out}
+use Rattle.plan_text.specs.Write.{Written, write_answer, write_out}
 use Rattle.plan_text.specs.Parts.{Writable, cleared}
 use Rattle.plan_text.specs.RoundLaws.{one_to_lem, plan_there, plan_back}
 use Rattle.plan_text.specs.WriteLaws.{accepted_writable, accepted_room, writable_answer, writable_out}
@@ -168,7 +167,7 @@ module _ (p : Plan) (lj : length p.job ≡ max_jobs) (lt : length p.table ≡ ma
       same_read q e h = rw e h
 
 -- the reader's answer on a text, and the writer's answer and output on its plan: the same bytes, and those past them as they were
-module _ (s out o : List ℕ) (r : PlanRead) (a : Answer) where
+module _ (s out o : List ℕ) (r : PlanRead) (a : Result ℕ Refusal) where
   pub read_then_write : r ≡ read_plan s → r.answer ≡ Accepted → length s ≤ length out → a ≡ write_answer r.plan (length out) → o ≡ write_out r.plan out
       → (a ≡ Written (length s)) × (take (length s) o ≡ s) × (drop (length s) o ≡ drop (length s) out)
   read_then_write e h room ea eo =

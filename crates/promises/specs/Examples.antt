@@ -2,7 +2,7 @@
 -- refused reports in between leave no trace; a plan of one slot runs and is over; a refused plan has no run. By computation.
 use Rattle.std.specs.Prelude.{ℕ, ◌≡◌, refl, List, pos, length}
 use Rattle.std.proofs.Common.{sym}
-use Rattle.answers.specs.declared.Answer.TheVariants.{Accepted, Overdrawn, Incoherent, Over, OtherSlot, WrongKind}
+use Rattle.answers.specs.Answer.{Accepted, Overdrawn, Incoherent, Over, OtherSlot, WrongKind}
 use Rattle.acceptance_promise.specs.Plans.{A, B, one_slot}
 use Rattle.executive.specs.declared.Phase.TheVariants.{T}
 use Rattle.entries.specs.declared.Standing.TheVariants.{Finished, Cut}

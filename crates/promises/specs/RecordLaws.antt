@@ -10,8 +10,7 @@ use Rattle.std.proofs.Math.ListN.{length, length-replicate}
 use Rattle.std.proofs.lemmas.List.{get_or-replicate}
 use borrow.Author.Tests.{eq-eqb, eqb-true, ltb-true, lt-ltb, le-leb}
 use Rattle.words.specs.Words.{◌=?◌, ◌<?◌, every}
-use Rattle.answers.specs.declared.Answer.TheVariants.{Accepted, Incoherent, Over, OtherSlot, WrongKind}
-use Rattle.answers.specs.Answer.{accepted, ◌unless◌, ◌and_then◌}
+use Rattle.answers.specs.Answer.{Accepted, Incoherent, Over, OtherSlot, WrongKind, accepted, ◌unless◌, ◌and_then◌}
 use Rattle.plan.specs.declared.Plan.{Plan}
 use Rattle.plan.specs.Limits.{max_jobs}
 use Rattle.plan.specs.Plan.{jobs_of, job_no, blank_job}

@@ -3,9 +3,8 @@
 use Rattle.std.specs.Prelude.{ℕ, ◌≡◌, refl, ◌⊎◌, Bool, true, false, List, length, pos, if◌then◌else◌}
 use Rattle.std.proofs.Common.{arith, sym, ◌∙◌, inl, inr, ⊎_elim}
 use Rattle.plan.specs.declared.Plan.{Plan}
-use Rattle.answers.specs.declared.Answer.TheVariants.{Accepted, Incoherent, Over, OtherSlot, WrongKind}
+use Rattle.answers.specs.Answer.{Accepted, Incoherent, Over, OtherSlot, WrongKind, accepted}
 use Rattle.words.specs.Words.{◌<?◌, ◌=?◌}
-use Rattle.answers.specs.Answer.{accepted}
 use Rattle.plan.specs.Plan.{blank_plan}
 use Rattle.acceptance.specs.Acceptance.{acceptance}
 use Rattle.acceptance.specs.Analysis.{analysis, refused_analysis}

@@ -1,7 +1,7 @@
 -- The starred sums of document 01, and sums of the requests: one list, one theorem, by computation.
 use Rattle.std.specs.Prelude.{ℕ, ◌≡◌, refl, List, [], ◌∷◌, map, ℤ, pos, negsuc, length, take}
 use Rattle.plan.specs.declared.Plan.{Plan}
-use Rattle.answers.specs.declared.Answer.TheVariants.{Accepted, TableCount, Overfull, Overdrawn, Chopped}
+use Rattle.answers.specs.Answer.{Accepted, TableCount, Overfull, Overdrawn, Chopped}
 use Rattle.intervals.specs.Intervals.{intervals}
 use Rattle.spares.specs.Spares.{row}
 use Rattle.acceptance.specs.Acceptance.{acceptance}

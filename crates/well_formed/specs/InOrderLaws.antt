@@ -9,8 +9,7 @@ use Rattle.std.proofs.Math.ListN.{length, get_or}
 use Rattle.std.proofs.Math.Seq.{get_or-take}
 use borrow.Author.Tests.{leb-true, ltb-true, eqb-true, le-leb, lt-ltb}
 use Rattle.words.specs.Words.{every, ◌≤?◌, ◌<?◌, ◌=?◌}
-use Rattle.answers.specs.declared.Answer.TheVariants.{SlotLimit, JobLimit, Window, Budget, TableSlot, TableCount}
-use Rattle.answers.specs.Answer.{accepted, ◌unless◌, ◌and_then◌}
+use Rattle.answers.specs.Answer.{SlotLimit, JobLimit, Window, Budget, TableSlot, TableCount, accepted, ◌unless◌, ◌and_then◌}
 use Rattle.plan.specs.declared.Job.{Job}
 use Rattle.plan.specs.declared.Plan.{Plan}
 use Rattle.plan.specs.Limits.{max_slots, max_jobs, one_to}

@@ -1,9 +1,7 @@
 -- Checks 2 to 7 and 17, in their order: what the record of a plan, and of a run, must pass.
 use Rattle.std.specs.Prelude.{ℕ, Bool, ◌&&◌, ◌||◌}
 use Rattle.words.specs.Words.{◌≤?◌, ◌<?◌, ◌=?◌}
-use Rattle.answers.specs.declared.Answer.{Answer}
-use Rattle.answers.specs.declared.Answer.TheVariants.{Window, Budget, TableSlot, TableCount, Chopped}
-use Rattle.answers.specs.Answer.{◌unless◌, ◌and_then◌, first_refusal}
+use Rattle.answers.specs.Answer.{Answer, Window, Budget, TableSlot, TableCount, Chopped, ◌unless◌, ◌and_then◌, first_refusal}
 use Rattle.plan.specs.declared.Plan.{Plan}
 use Rattle.plan.specs.Plan.{jobs_of, slots_of, job_no, naming}
 use Rattle.plan.specs.Rules.{check2, check3, window_holds, budget_holds}

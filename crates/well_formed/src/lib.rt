@@ -10,7 +10,7 @@ ghost use Rattle.well_formed.specs.WellFormed.{check6, well_formed};
 ghost use Rattle.well_formed.specs.Parts.{windows_from, budgets_from, counts_from, chopped_from};
 ghost use Rattle.well_formed.specs.RunWords.{no_runs, runs_with, runs_from};
 
-use answers::Answer;
+use answers::{Answer, Refusal};
 use plan::{Job, Plan};
 
 // A job's table slots form at most so many runs.
@@ -26,11 +26,11 @@ fn check4(job: [Job; plan::JOBS], jobs: u16, slots: u16) -> Answer
         let i = k as usize;
         let j = job[i];
         if !plan::window_holds(slots, j) {
-            return Answer::Window(k + 1);
+            return Err(Refusal::Window(k + 1));
         }
         k += 1;
     }
-    Answer::Accepted
+    Ok(())
 }
 
 // 5: the first of the jobs that breaks a budget rule.
@@ -43,11 +43,11 @@ fn check5(job: [Job; plan::JOBS], jobs: u16, slots: u16) -> Answer
         let i = k as usize;
         let j = job[i];
         if !plan::budget_holds(slots, j) {
-            return Answer::Budget(k + 1);
+            return Err(Refusal::Budget(k + 1));
         }
         k += 1;
     }
-    Answer::Accepted
+    Ok(())
 }
 
 // Where job k stands in the array of jobs; 0 for a k that names none.
@@ -113,7 +113,7 @@ fn check6(p: Plan) -> Scanned
         let j = p.job[at];
         if !entry_holds(jobs, j, t, k) {
             return Scanned {
-                answer: Answer::TableSlot(t),
+                answer: Err(Refusal::TableSlot(t)),
                 counts: counts,
                 runs: runs,
             };
@@ -124,7 +124,7 @@ fn check6(p: Plan) -> Scanned
         t += 1;
     }
     Scanned {
-        answer: Answer::Accepted,
+        answer: Ok(()),
         counts: counts,
         runs: runs,
     }
@@ -140,11 +140,11 @@ fn check7(job: [Job; plan::JOBS], jobs: u16, counts: [u16; plan::JOBS]) -> Answe
         let i = k as usize;
         let j = job[i];
         if counts[i] != j.lo {
-            return Answer::TableCount(k + 1);
+            return Err(Refusal::TableCount(k + 1));
         }
         k += 1;
     }
-    Answer::Accepted
+    Ok(())
 }
 
 // 17: the first of the jobs with more than four runs.
@@ -156,44 +156,26 @@ fn check17(runs: [u16; plan::JOBS], jobs: u16) -> Answer
     while k < jobs {
         let i = k as usize;
         if MAX_RUNS < runs[i] {
-            return Answer::Chopped(k + 1);
+            return Err(Refusal::Chopped(k + 1));
         }
         k += 1;
     }
-    Answer::Accepted
+    Ok(())
 }
 
 // Checks 2 to 7 and 17, in their order.
 pub fn well_formed(p: Plan) -> Answer
     ensures { result ≡ well_formed p }
 {
-    let slots = plan::slot_limit(p.slots);
-    if !answers::is_accepted(slots) {
-        return slots;
-    }
-    let jobs = plan::job_limit(p.jobs);
-    if !answers::is_accepted(jobs) {
-        return jobs;
-    }
+    plan::slot_limit(p.slots)?;
+    plan::job_limit(p.jobs)?;
     let job = p.job;
-    let windows = check4(job, p.jobs, p.slots);
-    if !answers::is_accepted(windows) {
-        return windows;
-    }
-    let budgets = check5(job, p.jobs, p.slots);
-    if !answers::is_accepted(budgets) {
-        return budgets;
-    }
+    check4(job, p.jobs, p.slots)?;
+    check5(job, p.jobs, p.slots)?;
     let scanned = check6(p);
-    let table = scanned.answer;
-    if !answers::is_accepted(table) {
-        return table;
-    }
+    scanned.answer?;
     let counts = scanned.counts;
-    let named = check7(job, p.jobs, counts);
-    if !answers::is_accepted(named) {
-        return named;
-    }
+    check7(job, p.jobs, counts)?;
     let runs = scanned.runs;
     check17(runs, p.jobs)
 }

@@ -1,9 +1,7 @@
 -- Check 8: the hi of the HI jobs in a window, summed, against the window's length. The sums are over any list of jobs.
 use Rattle.std.specs.Prelude.{ℕ, ◌-◌, ◌&&◌, ◌||◌, List, [], ◌∷◌, map, if◌then◌else◌}
 use Rattle.words.specs.Words.{◌≤?◌, sum}
-use Rattle.answers.specs.declared.Answer.{Answer}
-use Rattle.answers.specs.declared.Answer.TheVariants.{Overfull}
-use Rattle.answers.specs.Answer.{◌unless◌, first_refusal}
+use Rattle.answers.specs.Answer.{Answer, Overfull, ◌unless◌, first_refusal}
 use Rattle.plan.specs.declared.Job.{Job}
 use Rattle.plan.specs.declared.Plan.{Plan}
 use Rattle.plan.specs.Plan.{jobs_of, is_hi}

@@ -1,10 +1,16 @@
--- Laws of `every` for a loop over the first n of a list: the test from place i on.
-use Rattle.std.specs.Prelude.{ℕ, ◌+◌, ◌≤◌, ◌<◌, Bool, true, false, ◌≡◌, length, take, drop, get_or}
+-- Laws of `every`: it is the library's test of all members; for a loop over the first n of a list, the test from place i on.
+use Rattle.std.specs.Prelude.{ℕ, ◌+◌, ◌≤◌, ◌<◌, Bool, true, false, ◌&&◌, ◌≡◌, refl, [], ◌∷◌, length, take, drop, get_or}
+use Rattle.std.specs.List.{list_all}
 use Rattle.std.proofs.Math.Numerals.{add-one}
 use mathlib.Core.List.{List, map, zip_with}
-use Rattle.std.proofs.Common.{drop_of_length-le, length-take-le}
+use Rattle.std.proofs.Common.{ap, drop_of_length-le, length-take-le}
 use Rattle.words.specs.Words.{every}
 use Rattle.words.specs.ListLaws.{taken_from}
+
+pub every_is_all : {A : Type 0} (test : A → Bool) (xs : List A) → every (map test xs) ≡ list_all test xs
+unfolding every
+every_is_all test [] = refl
+every_is_all test (x ∷ xs) = ap (test x &&◌) (every_is_all test xs)
 
 module _ {A : Type 0} (test : A → Bool) (xs : List A) (n i : ℕ) (d : A) (le : n ≤ length xs) (h : i < n) where
   -- the one at i passes: the test from here is the test from the next on

@@ -10,3 +10,4 @@ pub mod PartLaws
 pub mod ZipLaws
 pub mod StoredLaws
 pub mod MemberLaws
+pub mod SumLaws

@@ -8,7 +8,7 @@ use mathlib.Core.List.{List, [], ◌∷◌, zip_with}
 use Rattle.words.specs.Words.{every}
 
 module _ {A B C : Type 0} (f : A → B → C) where
-  zip_length : (xs : List A) (ys : List B) → length xs ≤ length ys → length (zip_with f xs ys) ≡ length xs
+  pub zip_length : (xs : List A) (ys : List B) → length xs ≤ length ys → length (zip_with f xs ys) ≡ length xs
   unfolding zip_with
   zip_length [] ys h = refl
   zip_length (x ∷ xs) [] h = absurd (not-suc-le-zero h)

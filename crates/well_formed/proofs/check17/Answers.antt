@@ -7,9 +7,7 @@ use lib.ListN.{length}
 use borrow.Author.Rules.{rules}
 use borrow.Author.Tests.{le-leb, lt-leb}
 use Rattle.words.specs.Words.{◌≤?◌}
-use Rattle.answers.specs.declared.Answer.{Answer}
-use Rattle.answers.specs.declared.Answer.TheVariants.{Chopped}
-use Rattle.answers.specs.Answer.{accepted}
+use Rattle.answers.specs.Answer.{Answer, Chopped, accepted}
 use Rattle.answers.specs.AnswerLaws.{first_end_lem, rule_on, rule_found}
 use Rattle.plan.specs.Limits.{max_jobs}
 use Rattle.well_formed.specs.Runs.{max_runs}

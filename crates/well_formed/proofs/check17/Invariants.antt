@@ -3,9 +3,7 @@ use Prim.Native.Nat.{ℕ, ◌+◌, ◌-◌, ◌≤◌}
 use mathlib.Core.Path.{◌≡◌}
 use lib.ListN.{take, drop}
 use Rattle.words.specs.Words.{◌≤?◌}
-use Rattle.answers.specs.declared.Answer.{Answer}
-use Rattle.answers.specs.declared.Answer.TheVariants.{Chopped}
-use Rattle.answers.specs.Answer.{first_refusal, ◌unless◌}
+use Rattle.answers.specs.Answer.{Answer, Chopped, first_refusal, ◌unless◌}
 use Rattle.plan.specs.Limits.{max_jobs}
 use Rattle.well_formed.specs.Runs.{max_runs}
 use Rattle.well_formed.proofs.check17.Given as goal

@@ -6,9 +6,7 @@ use mathlib.Core.Path.{◌≡◌, refl, sym, ◌∙◌}
 use lib.ListN.{length}
 use borrow.Author.Rules.{rules}
 use Rattle.words.specs.ListLaws.{long}
-use Rattle.answers.specs.declared.Answer.{Answer}
-use Rattle.answers.specs.declared.Answer.TheVariants.{Budget}
-use Rattle.answers.specs.Answer.{accepted}
+use Rattle.answers.specs.Answer.{Answer, Budget, accepted}
 use Rattle.answers.specs.AnswerLaws.{first_end_lem}
 use Rattle.plan.specs.declared.Job.{Job}
 use Rattle.plan.specs.Limits.{max_jobs}

@@ -2,9 +2,7 @@
 use Prim.Native.Nat.{ℕ, ◌+◌, ◌-◌, ◌≤◌}
 use mathlib.Core.Path.{◌≡◌}
 use lib.ListN.{take, drop}
-use Rattle.answers.specs.declared.Answer.{Answer}
-use Rattle.answers.specs.declared.Answer.TheVariants.{Budget}
-use Rattle.answers.specs.Answer.{first_refusal, ◌unless◌}
+use Rattle.answers.specs.Answer.{Answer, Budget, first_refusal, ◌unless◌}
 use Rattle.plan.specs.declared.Job.{Job}
 use Rattle.plan.specs.Limits.{max_jobs}
 use Rattle.plan.specs.Rules.{budget_holds}

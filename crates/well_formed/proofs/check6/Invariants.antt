@@ -2,9 +2,7 @@
 use Prim.Native.Nat.{ℕ, ◌-◌, ◌≤◌}
 use mathlib.Core.Path.{◌≡◌}
 use lib.ListN.{take, drop}
-use Rattle.answers.specs.declared.Answer.{Answer}
-use Rattle.answers.specs.declared.Answer.TheVariants.{TableSlot}
-use Rattle.answers.specs.Answer.{first_refusal, ◌unless◌}
+use Rattle.answers.specs.Answer.{Answer, TableSlot, first_refusal, ◌unless◌}
 use Rattle.plan.specs.declared.Plan.{Plan}
 use Rattle.plan.specs.Limits.{max_slots}
 use Rattle.plan.specs.Plan.{counts_at}

@@ -4,9 +4,7 @@ use mathlib.Core.List.{List}
 use mathlib.Core.Path.{◌≡◌}
 use lib.ListN.{take, drop, get_or}
 use Rattle.words.specs.Words.{◌=?◌}
-use Rattle.answers.specs.declared.Answer.{Answer}
-use Rattle.answers.specs.declared.Answer.TheVariants.{TableCount}
-use Rattle.answers.specs.Answer.{first_refusal, ◌unless◌}
+use Rattle.answers.specs.Answer.{Answer, TableCount, first_refusal, ◌unless◌}
 use Rattle.plan.specs.declared.Job.{Job}
 use Rattle.plan.specs.Limits.{max_jobs}
 use Rattle.well_formed.proofs.check7.Given as goal
