@@ -2,7 +2,7 @@
 use Rattle.std.specs.Prelude.{ℕ, zero, suc, ◌+◌, ◌*◌, ◌≤◌, ◌<◌, ◌≡◌, refl, true, List, [], ◌∷◌, length, take, drop}
 use Prim.Native.String.{String}
 use Rattle.std.proofs.Common.{suc-mul, arith, sym, ap, length-drop, length-take, leb-true, leb-false}
-use Rattle.std.proofs.Math.Option.{Option, none, some}
+use Rattle.std.specs.Prelude.{Option, None, Some}
 use Rattle.words.specs.Words.{◌≤?◌}
 use Rattle.words.specs.Cases.{by_test}
 use Rattle.answers.specs.Answer.{Answer, SlotLimit, JobLimit, accepted, ◌unless◌}
@@ -39,8 +39,8 @@ unfolding field
 field_lines {A} meaning key here next a e = pick (value_in meaning (bytes key) here.text) e
   where
     pick : (o : Option A) → or_form o here ≡ got a next → next.line_no ≤ here.line_no + 1
-    pick (some v) e = omega (arith, ap (λ (c : Cursor). c.line_no) (got_same e).1)
-    pick none e = unread e
+    pick (Some v) e = omega (arith, ap (λ (c : Cursor). c.line_no) (got_same e).1)
+    pick None e = unread e
 
 many_lines : {A : Type 0} (j k : ℕ) (one : Reader A) → LinesAtMost j one → LinesAtMost (k * j) (many k one)
 unfolding many
@@ -85,26 +85,26 @@ plan_line s r p m e = omega (arith, plan_lines (start_of s) (cursor m r) p e)
 -- ---- a report line
 
 -- a kind has at most four letters
-kind_long : (w : List ℕ) → 4 < length w → kind_in w ≡ none
+kind_long : (w : List ℕ) → 4 < length w → kind_in w ≡ None
 unfolding kind_in
 kind_long w h = rw (sym (same_length w (bytes "end") (λ e. omega arith)), sym (same_length w (bytes "more") (λ e. omega arith)), sym (same_length w (bytes "none") (λ e. omega arith)))
 
 -- a slot of four digits, a comma and a kind of four letters
-report_long : (v : List ℕ) → 9 < length v → report_in v ≡ none
+report_long : (v : List ℕ) → 9 < length v → report_in v ≡ None
 unfolding report_in
 report_long v h =
     by_test (before_comma v ≤? 4)
     (λ e. slot_short (leb-true (before_comma v) 4 e))
     (λ e. pick (number (take (before_comma v) v)) (kind_in (drop (suc (before_comma v)) v)) (number_long (take (before_comma v) v) (rw (length-take) (omega (arith, leb-false (before_comma v) 4 e, comma_within v)))))
   where
-    pick : (o : Option ℕ) (k : Option Kind) → o ≡ none → report o k ≡ none
+    pick : (o : Option ℕ) (k : Option Kind) → o ≡ None → report o k ≡ None
     pick o k e = rw e
 
-    kindless : (o : Option ℕ) (k : Option Kind) → k ≡ none → report o k ≡ none
-    kindless none k e = refl
-    kindless (some n) k e = rw e
+    kindless : (o : Option ℕ) (k : Option Kind) → k ≡ None → report o k ≡ None
+    kindless None k e = refl
+    kindless (Some n) k e = rw e
 
-    slot_short : before_comma v ≤ 4 → report (number (take (before_comma v) v)) (kind_in (drop (suc (before_comma v)) v)) ≡ none
+    slot_short : before_comma v ≤ 4 → report (number (take (before_comma v) v)) (kind_in (drop (suc (before_comma v)) v)) ≡ None
     slot_short b = kindless (number (take (before_comma v) v)) (kind_in (drop (suc (before_comma v)) v)) (kind_long (drop (suc (before_comma v)) v) (rw length-drop (omega arith)))
 
 pub report_decided : Decided 17 (field report_in "report=")

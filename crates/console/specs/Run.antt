@@ -1,6 +1,5 @@
 -- The run program: all that it reads to all that it prints.
-use Rattle.std.specs.Prelude.{ℕ, zero, suc, List, [], ◌∷◌, ◌++◌, length, take, drop, if◌then◌else◌}
-use Rattle.std.proofs.Math.Option.{Option, none, some}
+use Rattle.std.specs.Prelude.{ℕ, zero, suc, List, [], ◌∷◌, ◌++◌, length, take, drop, if◌then◌else◌, Option, None, Some}
 use Rattle.answers.specs.Answer.{Answer, accepted}
 use Rattle.plan.specs.declared.Plan.{Plan}
 use Rattle.words.specs.Words.{◌=?◌}
@@ -14,7 +13,7 @@ use Rattle.executive.specs.declared.Phase.TheVariants.{T, H}
 use Rattle.executive.specs.declared.Run.{Run}
 use Rattle.ready.specs.declared.Slot.{Slot}
 use Rattle.entries.specs.declared.Kind.{Kind}
-use Rattle.entries.specs.declared.Kind.TheVariants.{End, More, None}
+use Rattle.entries.specs.declared.Kind.TheVariants.{End, More}
 use Rattle.executive.specs.declared.Report.{Report}
 use Rattle.executive.specs.declared.Started.{Started}
 use Rattle.executive.specs.Run.{start, current_hi, current_lo}
@@ -26,10 +25,10 @@ use Rattle.console.specs.Print.{signed, values, refused_line}
 
 unfoldable pub kind_in : List ℕ → Option Kind
 kind_in s =
-    if same_bytes s (bytes "end") then some End
-    else if same_bytes s (bytes "more") then some More
-    else if same_bytes s (bytes "none") then some None
-    else none
+    if same_bytes s (bytes "end") then Some End
+    else if same_bytes s (bytes "more") then Some More
+    else if same_bytes s (bytes "none") then Some Kind.None
+    else None
 
 -- how many bytes stand before the first comma
 unfoldable pub before_comma : List ℕ → ℕ
@@ -39,9 +38,9 @@ before_comma (b ∷ s) =
     if b =? comma then 0 else longer
 
 abbrev pub report : Option ℕ → Option Kind → Option Report
-report none kind = none
-report (some slot) none = none
-report (some slot) (some kind) = some (record { slot = slot; kind = kind })
+report None kind = None
+report (Some slot) None = None
+report (Some slot) (Some kind) = Some (record { slot = slot; kind = kind })
 
 -- the slot stands before the first comma, the kind after it
 unfoldable pub report_in : List ℕ → Option Report

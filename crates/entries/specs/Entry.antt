@@ -1,26 +1,24 @@
 -- One job's entry: whether it is live, what a report makes of it, when it expires, and what the tests of a run ask of it.
-use Rattle.std.specs.Prelude.{ℕ, ◌+◌, Bool, true, false, not, ◌&&◌, ◌||◌, if◌then◌else◌}
+use Rattle.std.specs.Prelude.{ℕ, ◌+◌, Bool, true, false, not, ◌&&◌, ◌||◌, if◌then◌else◌, Option, Some, None}
 use Rattle.words.specs.Words.{◌≤?◌, ◌<?◌, ◌=?◌}
 use Rattle.plan.specs.declared.Job.{Job}
 use Rattle.plan.specs.Plan.{is_hi}
 use Rattle.entries.specs.declared.Standing.{Standing}
 use Rattle.entries.specs.declared.Standing.TheVariants.{Waiting, Finished, Cut, Dropped}
-use Rattle.entries.specs.declared.Stands.{Stands}
-use Rattle.entries.specs.declared.Stands.TheVariants.{Live, Ended}
 use Rattle.entries.specs.declared.Entry.{Entry}
 use Rattle.entries.specs.declared.Kind.{Kind}
-use Rattle.entries.specs.declared.Kind.TheVariants.{End, More, None}
+use Rattle.entries.specs.declared.Kind.TheVariants.{End, More}
 
--- waiting is live, the others are ended, each with its border: the one place that goes by the letter
-abbrev pub how_it_stands : Standing → Stands
-how_it_stands Waiting = Live
-how_it_stands (Finished border) = Ended border
-how_it_stands (Cut border) = Ended border
-how_it_stands (Dropped border) = Ended border
+-- the border at which a job ended, none while it waits: the one place that goes by the letter
+abbrev pub how_it_stands : Standing → Option ℕ
+how_it_stands Waiting = None
+how_it_stands (Finished border) = Some border
+how_it_stands (Cut border) = Some border
+how_it_stands (Dropped border) = Some border
 
-abbrev pub is_waiting : Stands → Bool
-is_waiting Live = true
-is_waiting (Ended border) = false
+abbrev pub is_waiting : Option ℕ → Bool
+is_waiting None = true
+is_waiting (Some border) = false
 
 abbrev pub waiting : Standing → Bool
 waiting s = is_waiting (how_it_stands s)
@@ -36,7 +34,7 @@ fresh_entry = record { standing = Waiting; given = 0 }
 unfoldable pub standing_after : Kind → ℕ → ℕ → ℕ → Standing → Standing
 standing_after End hi given border before = Finished border
 standing_after More hi given border before = if given =? hi then Cut border else before
-standing_after None hi given border before = before
+standing_after Kind.None hi given border before = before
 
 -- the job's given grows by 1
 unfoldable pub ran_on : Kind → ℕ → Job → Entry → Entry
@@ -55,9 +53,9 @@ unfoldable pub settled : Job → Entry → ℕ → Bool
 settled j e count = not (live e) || ((count ≤? e.given) && not (past_lo j e))
 
 -- a live job has fewer slots than hi; an ended one at most hi, and is not marked ended after t
-abbrev pub holds_at : ℕ → ℕ → ℕ → Stands → Bool
-holds_at t hi given Live = given <? hi
-holds_at t hi given (Ended border) = (given ≤? hi) && (border ≤? t)
+abbrev pub holds_at : ℕ → ℕ → ℕ → Option ℕ → Bool
+holds_at t hi given None = given <? hi
+holds_at t hi given (Some border) = (given ≤? hi) && (border ≤? t)
 
 unfoldable pub standing_holds : ℕ → ℕ → ℕ → Standing → Bool
 standing_holds t hi given s = holds_at t hi given (how_it_stands s)

@@ -1,7 +1,7 @@
 -- What a coherent run before its last border has: its steps are sound, and the chosen job's slots can be counted on.
 use Prim.Native.Nat.{ℕ, zero, suc, ◌+◌, ◌-◌, ◌≤◌, ◌<◌, zero-le}
 use Rattle.std.proofs.Common.{not-suc-le-zero, le_of_suc-le-suc, arith, ◌∙◌, leb-true, ltb-true}
-use Rattle.std.specs.Prelude.{Bool, true, not, ◌&&◌, ◌≡◌, refl, length, get_or, if◌then◌else◌}
+use Rattle.std.specs.Prelude.{Bool, true, not, ◌&&◌, ◌≡◌, refl, length, get_or, if◌then◌else◌, Option, Some, None}
 use Rattle.std.proofs.Math.Bool.{false}
 use Rattle.std.proofs.lemmas.Bool.{false≢true}
 use Rattle.std.proofs.Math.Path.{sym}
@@ -17,8 +17,6 @@ use Rattle.well_formed.specs.WellFormed.{well_formed}
 use Rattle.well_formed.specs.InOrder.{InOrder}
 use Rattle.well_formed.specs.InOrderLaws.{in_order}
 use Rattle.entries.specs.declared.Standing.{Standing}
-use Rattle.entries.specs.declared.Stands.{Stands}
-use Rattle.entries.specs.declared.Stands.TheVariants.{Live, Ended}
 use Rattle.entries.specs.Entry.{how_it_stands, is_waiting, holds_at, entry_holds, waiting, live, fresh_entry, standing_holds}
 use Rattle.ready.specs.ReadyLaws.{walked}
 use Rattle.entries.specs.declared.Entry.{Entry}
@@ -39,9 +37,9 @@ live_below : (t hi given : ℕ) (s : Standing) → standing_holds t hi given s �
 unfolding standing_holds
 live_below t hi given s h l = go (how_it_stands s) h l
   where
-    go : (x : Stands) → holds_at t hi given x ≡ true → is_waiting x ≡ true → given < hi
-    go Live p w = ltb-true given hi p
-    go (Ended border) p w = absurd (false≢true w)
+    go : (x : Option ℕ) → holds_at t hi given x ≡ true → is_waiting x ≡ true → given < hi
+    go None p w = ltb-true given hi p
+    go (Some border) p w = absurd (false≢true w)
 
 every_at : (bs : List Bool) (i : ℕ) → i < length bs → every bs ≡ true → get_or bs i false ≡ true
 unfolding every

@@ -4,10 +4,10 @@
 #![tactic(auto)]
 
 ghost use Rattle.std.specs.Prelude.{◌≡◌, take, drop};
-ghost use Rattle.lines.specs.Reading.{value_at, number_at};
-ghost use Rattle.line_reader.specs.Line.{next_place, with_next};
+ghost use Rattle.lines.specs.Lines.{number};
+ghost use Rattle.lines.specs.Reading.{value_at, field_at};
 
-use lines::reading::{Number, NumberAt, ValueAt, key_at, line_end, read_number};
+use lines::reading::{ValueAt, first_lf, key_at, read_number};
 
 #[derive(Clone, Copy)]
 pub struct LineReader<'a> {
@@ -17,53 +17,19 @@ pub struct LineReader<'a> {
 
 // The work: where the value of the line at `at` stands. The key goes first: the LF is looked for only behind it.
 #[tactic(auto, using(lines::specs::ReadingLaws::value_other, lines::specs::ReadingLaws::key_fits, lines::specs::ReadingLaws::value_unclosed, lines::specs::ReadingLaws::value_found))]
-fn value_at(text: &[u8], at: usize, key: &[u8]) -> ValueAt
+fn value_at(text: &[u8], at: usize, key: &[u8]) -> Option<ValueAt>
     ensures { result ≡ value_at text.now at key.now }
 {
     if !key_at(text, at, key) {
-        return ValueAt::Refused;
+        return None;
     }
     let start = at + key.len();
-    let end = line_end(text, start);
-    if end >= text.len() {
-        return ValueAt::Refused;
-    }
-    ValueAt::At {
+    let len = first_lf(text.get(start..)?)?;
+    Some(ValueAt {
         start,
-        len: end - start,
-        next: end + 1,
-    }
-}
-
-// The work: where a reader at `at` goes, past the LF of the line that was seen. Where none was it stays.
-fn next_place(seen: ValueAt, at: usize) -> usize
-    ensures { result ≡ next_place seen at }
-{
-    match seen {
-        ValueAt::At { start, len, next } => next,
-        ValueAt::Refused => at,
-    }
-}
-
-// The work: what was seen, with the place of the reader that moved on.
-fn with_next(seen: ValueAt, next: usize) -> ValueAt
-    ensures { result ≡ with_next seen next }
-{
-    match seen {
-        ValueAt::At {
-            start,
-            len,
-            next: old,
-        } => ValueAt::At { start, len, next },
-        ValueAt::Refused => ValueAt::Refused,
-    }
-}
-
-// The work: the part of the text that is `len` bytes from `start` on, shorter at the text's end.
-fn part_at<'a>(text: &'a [u8], start: usize, len: usize) -> &'a [u8]
-    ensures { result.now ≡ take len (drop start text.now) }
-{
-    lines::reading::value(text, start, len)
+        len,
+        next: start + len + 1,
+    })
 }
 
 // A reader at a place of the caller's text.
@@ -81,7 +47,7 @@ pub fn place<'a>(r: LineReader<'a>) -> usize
 }
 
 // The line at the reader's place: where its value stands, or refused where it is missing, is not closed or has another key.
-pub fn look<'a, 'b>(r: LineReader<'a>, key: &'b [u8]) -> ValueAt
+pub fn look<'a, 'b>(r: LineReader<'a>, key: &'b [u8]) -> Option<ValueAt>
     ensures { result ≡ value_at r.entry.text.now r.entry.at key.now }
 {
     value_at(r.text, r.at, key)
@@ -98,17 +64,18 @@ pub fn moved<'a>(r: LineReader<'a>, at: usize) -> LineReader<'a>
 pub fn part<'a>(r: LineReader<'a>, start: usize, len: usize) -> &'a [u8]
     ensures { result.now ≡ take len (drop start r.entry.text.now) }
 {
-    part_at(r.text, start, len)
+    lines::reading::value(r.text, start, len)
 }
 
 // One line walked: a reader at `at` looks at its line, moves past the LF, and its place is where the next line starts.
 // Refused where the line is missing, is not closed or has another key.
-pub fn find_value<'a, 'b>(text: &'a [u8], at: usize, key: &'b [u8]) -> ValueAt
+pub fn find_value<'a, 'b>(text: &'a [u8], at: usize, key: &'b [u8]) -> Option<ValueAt>
     ensures { result ≡ value_at text.now at key.now }
 {
     let here = reader_at(text, at);
-    let seen = look(here, key);
-    with_next(seen, place(moved(here, next_place(seen, at))))
+    let seen = look(here, key)?;
+    let next = place(moved(here, seen.next));
+    Some(ValueAt { next, ..seen })
 }
 
 // A part of the caller's text, by way of the reader at its start.
@@ -119,15 +86,11 @@ pub fn part_from<'a>(text: &'a [u8], start: usize, len: usize) -> &'a [u8]
 }
 
 // The number on the line at `at`, which has the key.
-#[tactic(auto, using(lines::specs::ReadingLaws::number_refused))]
-pub fn number_field(text: &[u8], at: usize, key: &[u8]) -> NumberAt
-    ensures { result ≡ number_at text.now at key.now }
+#[tactic(auto, using(lines::specs::ReadingLaws::field_steps))]
+pub fn number_field(text: &[u8], at: usize, key: &[u8]) -> Option<(u16, usize)>
+    ensures { result ≡ field_at number text.now at key.now }
 {
-    match find_value(text, at, key) {
-        ValueAt::At { start, len, next } => match read_number(part_from(text, start, len)) {
-            Number::Is(number) => NumberAt::Got(number, next),
-            Number::Not => NumberAt::Bad,
-        },
-        ValueAt::Refused => NumberAt::Bad,
-    }
+    let value = find_value(text, at, key)?;
+    let number = read_number(part_from(text, value.start, value.len))?;
+    Some((number, value.next))
 }

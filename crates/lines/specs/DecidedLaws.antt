@@ -6,7 +6,7 @@ use Prim.Native.String.{String}
 use Rattle.std.proofs.Common.{suc-mul, le_of_suc-le-suc, arith, ◌∙◌, length-append, length-take, lt-ltb, le-ltb}
 use Rattle.std.proofs.Math.Path.{refl, sym, ap}
 use mathlib.Core.List.{List, [], ◌∷◌, ◌++◌}
-use Rattle.std.proofs.Math.Option.{Option, none, some}
+use Rattle.std.specs.Prelude.{Option, None, Some}
 use Rattle.std.proofs.Math.ListN.{length, length-drop}
 use Rattle.std.proofs.lemmas.List.{take-append-le}
 use Rattle.std.proofs.Math.Seq.{drop-append-le}
@@ -128,31 +128,31 @@ unfolding value_in
 value_closed meaning key s u h =
     rw (line_closed s u h, take-append-le (line_length s) s u (omega arith), lt-ltb (line_length s) (length (s ++ u)) (omega (arith, length-append s u)), lt-ltb (line_length s) (length s) h)
 
-module _ {A : Type 0} (meaning : List ℕ → Option A) (key : List ℕ) (longest : ℕ) (short : (v : List ℕ) → longest < length v → meaning v ≡ none) where
+module _ {A : Type 0} (meaning : List ℕ → Option A) (key : List ℕ) (longest : ℕ) (short : (v : List ℕ) → longest < length v → meaning v ≡ None) where
   -- an open line has no value
-  value_open : (s : List ℕ) → length s ≤ line_length s → value_in meaning key s ≡ none
+  value_open : (s : List ℕ) → length s ≤ line_length s → value_in meaning key s ≡ None
   unfolding value_in
   value_open s h = rw (le-ltb (line_length s) (length s) h)
 
   -- a line longer than the key and the longest value has none
-  value_long : (s : List ℕ) → length key + longest < line_length s → value_in meaning key s ≡ none
+  value_long : (s : List ℕ) → length key + longest < line_length s → value_in meaning key s ≡ None
   unfolding value_in
   value_long s h = by_less (line_length s) (length s) closed (value_open s)
     where
-      closed : line_length s < length s → value_in meaning key s ≡ none
+      closed : line_length s < length s → value_in meaning key s ≡ None
       closed c =
           by_test (begins key (take (line_length s) s))
           (λ e. rw (lt-ltb (line_length s) (length s) c, e) (short _ (rw (length-drop, length-take) (omega arith))))
           (λ e. rw (lt-ltb (line_length s) (length s) c, e))
 
   -- a value is on a closed line, no longer than the key and the longest value
-  value_bound : (s : List ℕ) (a : A) → value_in meaning key s ≡ some a → (line_length s < length s) × (line_length s ≤ length key + longest)
+  value_bound : (s : List ℕ) (a : A) → value_in meaning key s ≡ Some a → (line_length s < length s) × (line_length s ≤ length key + longest)
   value_bound s a e =
       by_less (line_length s) (length s)
       (λ c. (c, by_less (length key + longest) (line_length s) (λ h. nothing (sym (value_long s h) ∙ e)) (λ h. h)))
       (λ h. nothing (sym (value_open s h) ∙ e))
 
-module _ {A : Type 0} (meaning : List ℕ → Option A) (key : String) (longest : ℕ) (short : (v : List ℕ) → longest < length v → meaning v ≡ none) where
+module _ {A : Type 0} (meaning : List ℕ → Option A) (key : String) (longest : ℕ) (short : (v : List ℕ) → longest < length v → meaning v ≡ None) where
   -- the key, the longest value and the LF decide
   pub field_decided : Decided (length (bytes key) + longest + 1) (field meaning key)
   unfolding field
@@ -164,8 +164,8 @@ module _ {A : Type 0} (meaning : List ℕ → Option A) (key : String) (longest 
     where
       goes : (o : Option A) (l : ℕ) (s u : List ℕ) (a : A) (m : ℕ) (r : List ℕ) → value_in meaning (bytes key) s ≡ o → or_form o (cursor l s) ≡ got a (cursor m r)
           → (or_form (value_in meaning (bytes key) (s ++ u)) (cursor l (s ++ u)) ≡ got a (cursor m (r ++ u))) × (length s ≤ length (bytes key) + longest + 1 + length r) × (m + lines_in r ≡ l + lines_in s)
-      goes none l s u a m r p e = unread e
-      goes (some v) l s u a m r p e =
+      goes None l s u a m r p e = unread e
+      goes (Some v) l s u a m r p e =
           let q = same_got e in
           let b = value_bound meaning (bytes key) longest short s v p in
           let c = line_closed s u b.0 in (
@@ -176,16 +176,16 @@ module _ {A : Type 0} (meaning : List ℕ → Option A) (key : String) (longest 
 
       stays : (o : Option A) (l : ℕ) (s u : List ℕ) (x : Answer) → length (bytes key) + longest + 1 ≤ length s → value_in meaning (bytes key) s ≡ o → or_form o (cursor l s) ≡ refused x
           → or_form (value_in meaning (bytes key) (s ++ u)) (cursor l (s ++ u)) ≡ refused x
-      stays (some v) l s u x h p e = unread (sym e)
-      stays none l s u x h p e =
+      stays (Some v) l s u x h p e = unread (sym e)
+      stays None l s u x h p e =
           by_less (line_length s) (length s)
           (λ c. rw (value_closed meaning (bytes key) s u c, p) e)
           (λ o. rw (value_long meaning (bytes key) longest short (s ++ u) (omega (arith, line_open s u o))) e)
 
       closes : (o : Option A) (l : ℕ) (s u : List ℕ) (x : Answer) → first_place x < l + lines_in s → value_in meaning (bytes key) s ≡ o → or_form o (cursor l s) ≡ refused x
           → or_form (value_in meaning (bytes key) (s ++ u)) (cursor l (s ++ u)) ≡ refused x
-      closes (some v) l s u x h p e = unread (sym e)
-      closes none l s u x h p e =
+      closes (Some v) l s u x h p e = unread (sym e)
+      closes None l s u x h p e =
           let place : Form l ≡ x = (cc) in
           by_less (line_length s) (length s)
           (λ c. rw (value_closed meaning (bytes key) s u c, p) e)

@@ -2,7 +2,7 @@
 -- It holds of a field, of one reader after another, and of many of one kind; so it holds of every reader made of these.
 use Rattle.std.specs.Prelude.{◌≡◌, refl, Bool, true, false, ◌&&◌, List, ℕ, zero, suc, ◌+◌, ◌-◌, ◌≤◌, ◌<◌, length, take, drop, if◌then◌else◌}
 use Rattle.std.proofs.Common.{ap, ◌∙◌, arith, length-drop, drop-drop, ltb-true}
-use Rattle.std.proofs.Math.Option.{Option, none, some}
+use Rattle.std.specs.Prelude.{Option, None, Some}
 use Prim.Native.String.{String}
 use Rattle.answers.specs.Answer.{Answer, accepted}
 use Rattle.words.specs.Words.{◌<?◌}
@@ -69,11 +69,11 @@ field_forward {A} meaning key here =
     inner (line_length here.text <? length here.text) (begins (bytes key) (take (line_length here.text) here.text)) refl
   where
     meant : (o : Option A) → line_length here.text < length here.text → Forward here.text (or_form o here)
-    meant (some a) h = record { place = suc (line_length here.text); within = h; same = refl }
-    meant none h = refl
+    meant (Some a) h = record { place = suc (line_length here.text); within = h; same = refl }
+    meant None h = refl
 
     inner : (b d : Bool) → (line_length here.text <? length here.text) ≡ b
-        → Forward here.text (or_form (if b && d then meaning (drop (length (bytes key)) (take (line_length here.text) here.text)) else none) here)
+        → Forward here.text (or_form (if b && d then meaning (drop (length (bytes key)) (take (line_length here.text) here.text)) else None) here)
     inner true true p = meant (meaning (drop (length (bytes key)) (take (line_length here.text) here.text))) (ltb-true _ _ p)
     inner true false p = refl
     inner false d p = refl

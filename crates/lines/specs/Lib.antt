@@ -8,4 +8,4 @@ pub mod ForwardLaws
 pub mod Writing
 pub mod WritingLaws
 pub mod DecidedLaws
-pub mod WriteManyLaws
+pub mod TextLaws

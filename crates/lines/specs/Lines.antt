@@ -1,9 +1,8 @@
 -- Lines `key=value` of bytes: how a line is written, and how lines are read one after the other.
-use Rattle.std.specs.Prelude.{ℕ, zero, suc, ◌+◌, ◌-◌, ◌*◌, ◌/◌, ◌%◌, Bool, true, false, ◌&&◌, ◌||◌, List, [], ◌∷◌, ◌++◌, length, take, drop, if◌then◌else◌}
+use Rattle.std.specs.Prelude.{ℕ, zero, suc, ◌+◌, ◌-◌, ◌*◌, ◌/◌, ◌%◌, Bool, true, false, ◌&&◌, ◌||◌, List, [], ◌∷◌, ◌++◌, length, take, drop, if◌then◌else◌, Option, None, Some}
 use Prim.Native.Char.{code}
 use Prim.Native.String.{String}
 use Prim.Native.String as Str
-use Rattle.std.proofs.Math.Option.{Option, none, some}
 use Rattle.answers.specs.Answer.{Answer, Form, accepted, ◌unless◌}
 use Rattle.words.specs.Words.{◌≤?◌, ◌<?◌, ◌=?◌}
 
@@ -48,16 +47,16 @@ same_bytes (a ∷ s) (b ∷ t) = (a =? b) && same_bytes s t
 
 -- the number that digits make after those that made n
 unfoldable pub number_from : ℕ → List ℕ → Option ℕ
-number_from n [] = some n
+number_from n [] = Some n
 number_from n (b ∷ bs) =
     let onward = number_from (n * 10 + (b - 48)) bs in
-    if (48 ≤? b) && (b ≤? 57) then onward else none
+    if (48 ≤? b) && (b ≤? 57) then onward else None
 
 -- 1 to 4 digits and no leading zero (0 itself is `0`)
 unfoldable pub number : List ℕ → Option ℕ
-number [] = none
+number [] = None
 number (b ∷ []) = number_from 0 (b ∷ [])
-number (b ∷ c ∷ bs) = if (b =? 48) || (2 <? length bs) then none else number_from 0 (b ∷ c ∷ bs)
+number (b ∷ c ∷ bs) = if (b =? 48) || (2 <? length bs) then None else number_from 0 (b ∷ c ∷ bs)
 
 -- ---- read
 
@@ -124,15 +123,15 @@ unfoldable pub value_in : {A : Type 0} → (List ℕ → Option A) → List ℕ 
 value_in meaning key s =
     let n = line_length s in
     let closed = n <? length s in
-    if closed && begins key (take n s) then meaning (drop (length key) (take n s)) else none
+    if closed && begins key (take n s) then meaning (drop (length key) (take n s)) else None
 
 -- where the reader stands after the next line
 abbrev pub line_on : Cursor → Cursor
 line_on here = record { line_no = suc here.line_no; text = drop (suc (line_length here.text)) here.text }
 
 abbrev pub or_form : {A : Type 0} → Option A → Reader A
-or_form (some a) here = got a (line_on here)
-or_form none here = refused (Form here.line_no)
+or_form (Some a) here = got a (line_on here)
+or_form None here = refused (Form here.line_no)
 
 -- the value of the next line; 1 at that line where it is missing, unfinished or not of the form
 unfoldable pub field : {A : Type 0} → (List ℕ → Option A) → String → Reader A

@@ -2,13 +2,13 @@
 use Rattle.std.specs.Prelude.{ℕ, zero, suc, ◌+◌, ◌-◌, ◌*◌, ◌/◌, ◌%◌, ◌≤◌, ◌<◌, ◌≡◌, refl, Bool, true, false, ◌&&◌, ◌||◌, List, [], ◌∷◌, ◌++◌, length, if◌then◌else◌}
 use Rattle.std.proofs.Common.{arith, sym, ap, ◌∙◌, lt-ltb, le-ltb, le-leb, ne_eqb, leb-true, ltb-false}
 use Rattle.std.proofs.Math.Decide.{dec_lt}
-use Rattle.std.proofs.Math.Option.{none, some}
+use Rattle.std.specs.Prelude.{None, Some}
 use Rattle.std.proofs.lemmas.Bool.{eqb-false}
 use Rattle.words.specs.Words.{◌≤?◌, ◌<?◌, ◌=?◌}
 use Rattle.lines.specs.Lines.{digits_in, digits, number_from, number}
 
 -- none is not some
-pub nothing : {A X : Type 0} {a : A} → none ≡ some a → X
+pub nothing : {A X : Type 0} {a : A} → None ≡ Some a → X
 nothing e = absurd (let z : ◌≡◌ {A = ℕ} 0 1 = cc in omega arith)
 
 -- ---- the digits
@@ -75,27 +75,27 @@ digits_few n h =
 -- ---- what is written is read
 
 -- reading goes on after digits that were read
-from_append : (a m : ℕ) (s t : List ℕ) → number_from a s ≡ some m → number_from a (s ++ t) ≡ number_from m t
+from_append : (a m : ℕ) (s t : List ℕ) → number_from a s ≡ Some m → number_from a (s ++ t) ≡ number_from m t
 unfolding number_from
 from_append a m [] t e = let q : a ≡ m = cc in rw q
 from_append a m (b ∷ s) t e = step ((48 ≤? b) && (b ≤? 57)) (from_append (a * 10 + (b - 48)) m s t) e
   where
-    step : (x : Bool) → (number_from (a * 10 + (b - 48)) s ≡ some m → number_from (a * 10 + (b - 48)) (s ++ t) ≡ number_from m t)
-        → (if x then number_from (a * 10 + (b - 48)) s else none) ≡ some m → (if x then number_from (a * 10 + (b - 48)) (s ++ t) else none) ≡ number_from m t
+    step : (x : Bool) → (number_from (a * 10 + (b - 48)) s ≡ Some m → number_from (a * 10 + (b - 48)) (s ++ t) ≡ number_from m t)
+        → (if x then number_from (a * 10 + (b - 48)) s else None) ≡ Some m → (if x then number_from (a * 10 + (b - 48)) (s ++ t) else None) ≡ number_from m t
     step true ih e = ih e
     step false ih e = nothing e
 
-from_digit : (a d : ℕ) → d ≤ 9 → number_from a ((48 + d) ∷ []) ≡ some (a * 10 + d)
+from_digit : (a d : ℕ) → d ≤ 9 → number_from a ((48 + d) ∷ []) ≡ Some (a * 10 + d)
 unfolding number_from
-from_digit a d h = rw (le-leb 48 (48 + d) (omega arith), le-leb (48 + d) 57 (omega arith)) (ap some (omega arith))
+from_digit a d h = rw (le-leb 48 (48 + d) (omega arith), le-leb (48 + d) 57 (omega arith)) (ap Some (omega arith))
 
-from_digits : (k n : ℕ) → n ≤ k → number_from 0 (digits n) ≡ some n
-from_digits zero n h = rw (digits_one n (omega arith)) (from_digit 0 n (omega arith) ∙ ap some (omega arith))
+from_digits : (k n : ℕ) → n ≤ k → number_from 0 (digits n) ≡ Some n
+from_digits zero n h = rw (digits_one n (omega arith)) (from_digit 0 n (omega arith) ∙ ap Some (omega arith))
 from_digits (suc k) n h =
     elim (dec_lt n 10) [
-      | yes s ↦ rw (digits_one n s) (from_digit 0 n (omega arith) ∙ ap some (omega arith))
+      | yes s ↦ rw (digits_one n s) (from_digit 0 n (omega arith) ∙ ap Some (omega arith))
       | no s ↦ rw (digits_more n (omega arith), from_append 0 (n / 10) (digits (n / 10)) ((48 + n % 10) ∷ []) (from_digits k (n / 10) (omega arith)))
-          (from_digit (n / 10) (n % 10) (omega arith) ∙ ap some (omega arith))
+          (from_digit (n / 10) (n % 10) (omega arith) ∙ ap Some (omega arith))
     ]
 
 -- more digits than one begin with no zero
@@ -104,10 +104,10 @@ unfolding number
 number_long b c s h l = rw (ne_eqb b 48 h, le-ltb 2 (length s) l)
 
 -- what is read of the digits of a number is the number
-pub number_digits : (n : ℕ) → n ≤ 9999 → number (digits n) ≡ some n
+pub number_digits : (n : ℕ) → n ≤ 9999 → number (digits n) ≡ Some n
 unfolding number
 number_digits n h =
-    let r : number_from 0 (digits n) ≡ some n = from_digits n n (omega arith) in
+    let r : number_from 0 (digits n) ≡ Some n = from_digits n n (omega arith) in
     elim (dec_lt n 10) [
       | yes a ↦ rw (digits_one n a) (rw (digits_one n a) at r)
       | no a ↦ elim (dec_lt n 100) [
@@ -122,39 +122,39 @@ number_digits n h =
 -- ---- what is read is what is written
 
 -- a digit that let the reading go on
-from_step : (a b n : ℕ) (s : List ℕ) → number_from a (b ∷ s) ≡ some n → (48 ≤ b) × (b ≤ 57) × (number_from (a * 10 + (b - 48)) s ≡ some n)
+from_step : (a b n : ℕ) (s : List ℕ) → number_from a (b ∷ s) ≡ Some n → (48 ≤ b) × (b ≤ 57) × (number_from (a * 10 + (b - 48)) s ≡ Some n)
 unfolding number_from
 from_step a b n s e = pick (48 ≤? b) (b ≤? 57) (leb-true 48 b) (leb-true b 57) e
   where
-    pick : (x y : Bool) → (x ≡ true → 48 ≤ b) → (y ≡ true → b ≤ 57) → (if x && y then number_from (a * 10 + (b - 48)) s else none) ≡ some n
-        → (48 ≤ b) × (b ≤ 57) × (number_from (a * 10 + (b - 48)) s ≡ some n)
+    pick : (x y : Bool) → (x ≡ true → 48 ≤ b) → (y ≡ true → b ≤ 57) → (if x && y then number_from (a * 10 + (b - 48)) s else None) ≡ Some n
+        → (48 ≤ b) × (b ≤ 57) × (number_from (a * 10 + (b - 48)) s ≡ Some n)
     pick true true f g e = (f refl, g refl, e)
     pick true false f g e = nothing e
     pick false y f g e = nothing e
 
-from_end : (a n : ℕ) → number_from a [] ≡ some n → a ≡ n
+from_end : (a n : ℕ) → number_from a [] ≡ Some n → a ≡ n
 unfolding number_from
 from_end a n e = cc
 
 -- two digits or more: no zero in front, and four at most
-number_open : (b c n : ℕ) (s : List ℕ) → number (b ∷ c ∷ s) ≡ some n → (b ≡ 48 → ⊥) × (length s ≤ 2) × (number_from 0 (b ∷ c ∷ s) ≡ some n)
+number_open : (b c n : ℕ) (s : List ℕ) → number (b ∷ c ∷ s) ≡ Some n → (b ≡ 48 → ⊥) × (length s ≤ 2) × (number_from 0 (b ∷ c ∷ s) ≡ Some n)
 unfolding number
 number_open b c n s e = pick (b =? 48) (2 <? length s) (eqb-false b 48) (ltb-false 2 (length s)) e
   where
-    pick : (x y : Bool) → (x ≡ false → b ≡ 48 → ⊥) → (y ≡ false → length s ≤ 2) → (if x || y then none else number_from 0 (b ∷ c ∷ s)) ≡ some n
-        → (b ≡ 48 → ⊥) × (length s ≤ 2) × (number_from 0 (b ∷ c ∷ s) ≡ some n)
+    pick : (x y : Bool) → (x ≡ false → b ≡ 48 → ⊥) → (y ≡ false → length s ≤ 2) → (if x || y then None else number_from 0 (b ∷ c ∷ s)) ≡ Some n
+        → (b ≡ 48 → ⊥) × (length s ≤ 2) × (number_from 0 (b ∷ c ∷ s) ≡ Some n)
     pick false false f g e = (f refl, g refl, e)
     pick false true f g e = nothing e
     pick true y f g e = nothing e
 
 module _ (n : ℕ) where
-  back_one : (a : ℕ) → number_from 0 (a ∷ []) ≡ some n → (digits n ≡ a ∷ []) × (n ≤ 9999)
+  back_one : (a : ℕ) → number_from 0 (a ∷ []) ≡ Some n → (digits n ≡ a ∷ []) × (n ≤ 9999)
   back_one a e =
       let p = from_step 0 a n [] e in
       let v = from_end _ n p.2 in
       (rw (digits_one n (omega arith)) (ap (λ (x : ℕ). x ∷ []) (omega arith)), omega arith)
 
-  back_two : (a b : ℕ) → (a ≡ 48 → ⊥) → number_from 0 (a ∷ b ∷ []) ≡ some n → (digits n ≡ a ∷ b ∷ []) × (n ≤ 9999)
+  back_two : (a b : ℕ) → (a ≡ 48 → ⊥) → number_from 0 (a ∷ b ∷ []) ≡ Some n → (digits n ≡ a ∷ b ∷ []) × (n ≤ 9999)
   back_two a b z e =
       let p = from_step 0 a n (b ∷ []) e in
       let q = from_step _ b n [] p.2 in
@@ -163,7 +163,7 @@ module _ (n : ℕ) where
       let y : 48 + n % 10 ≡ b = omega arith in
       (rw (digits_two n (omega arith) (omega arith), x, y), omega arith)
 
-  back_three : (a b c : ℕ) → (a ≡ 48 → ⊥) → number_from 0 (a ∷ b ∷ c ∷ []) ≡ some n → (digits n ≡ a ∷ b ∷ c ∷ []) × (n ≤ 9999)
+  back_three : (a b c : ℕ) → (a ≡ 48 → ⊥) → number_from 0 (a ∷ b ∷ c ∷ []) ≡ Some n → (digits n ≡ a ∷ b ∷ c ∷ []) × (n ≤ 9999)
   back_three a b c z e =
       let p = from_step 0 a n (b ∷ c ∷ []) e in
       let q = from_step _ b n (c ∷ []) p.2 in
@@ -174,7 +174,7 @@ module _ (n : ℕ) where
       let w : 48 + n % 10 ≡ c = omega arith in
       (rw (digits_three n (omega arith) (omega arith), x, y, w), omega arith)
 
-  back_four : (a b c d : ℕ) → (a ≡ 48 → ⊥) → number_from 0 (a ∷ b ∷ c ∷ d ∷ []) ≡ some n → (digits n ≡ a ∷ b ∷ c ∷ d ∷ []) × (n ≤ 9999)
+  back_four : (a b c d : ℕ) → (a ≡ 48 → ⊥) → number_from 0 (a ∷ b ∷ c ∷ d ∷ []) ≡ Some n → (digits n ≡ a ∷ b ∷ c ∷ d ∷ []) × (n ≤ 9999)
   back_four a b c d z e =
       let p = from_step 0 a n (b ∷ c ∷ d ∷ []) e in
       let q = from_step _ b n (c ∷ d ∷ []) p.2 in
@@ -188,7 +188,7 @@ module _ (n : ℕ) where
       (rw (digits_four n (omega arith) (omega arith), x, y, w, u), omega arith)
 
 -- a text that reads as a number is the number's digits
-pub digits_number : (n : ℕ) (s : List ℕ) → number s ≡ some n → (digits n ≡ s) × (n ≤ 9999)
+pub digits_number : (n : ℕ) (s : List ℕ) → number s ≡ Some n → (digits n ≡ s) × (n ≤ 9999)
 unfolding number
 digits_number n [] e = nothing e
 digits_number n (a ∷ []) e = back_one n a e

@@ -1,23 +1,21 @@
 -- Laws of reading by place: the ways to find a value, which texts are numbers, and that a field at a place is the definitions' field.
 use Rattle.std.proofs.Math.Path.{◌≡◌, refl}
-use Rattle.std.proofs.Common.{sym, ap, zero-le, suc-le-suc, length-take, drop_of_length-le, take_all}
-use Rattle.std.specs.Prelude.{List, [], ◌∷◌, Bool, ◌&&◌, ◌||◌, get_or, take, drop, eqb, if◌then◌else◌}
+use Rattle.std.proofs.Common.{sym, ap, zero-le, suc-le-suc, length-take, take_all}
+use Rattle.std.specs.Prelude.{List, [], ◌∷◌, Bool, ◌&&◌, ◌||◌, get_or, take, drop, eqb, Option, None, Some, position, option_map, option_and_then, if◌then◌else◌}
+use Rattle.std.proofs.lemmas.Option.{none-some, same_Some}
 use Rattle.std.proofs.Math.Bool.{true, false}
-use Rattle.std.proofs.Math.Option.{Option, none, some}
 use Prim.Native.Nat.{ℕ, zero, suc, ◌+◌, ◌-◌, ◌≤◌, ◌<◌}
-use Prim.Native.String.{String}
 use Rattle.std.proofs.Math.Nat.{sub-zero}
 use native.Mathlib.Omega.{arith}
 use Rattle.std.proofs.Math.ListN.{length, length-drop}
 use Rattle.std.proofs.Math.Seq.{drop-drop, take-nil}
-use borrow.Author.Tests.{eqb-true, eqb-false, eq-eqb, ne_eqb, le-ltb, lt-ltb, ltb-true}
+use borrow.Author.Tests.{eq-eqb, ne_eqb, le-ltb, lt-ltb, ltb-true}
 use Rattle.answers.specs.Answer.{Form}
 use Rattle.words.specs.Words.{◌<?◌}
-use Rattle.lines.specs.Lines.{bytes, LF, got, refused, line_length, begins, same_bytes, number, number_from, value_in, field}
-use Rattle.lines.specs.Reading.{line_after, line_here, value_at, number_read, number_then, number_at, standing}
-use Rattle.lines.specs.declared.reading.ValueAt.TheVariants.{At, Refused}
-use Rattle.lines.specs.declared.reading.Number.{Number}
-use Rattle.lines.specs.declared.reading.NumberAt.TheVariants.{Got, Bad}
+use Rattle.lines.specs.Lines.{LF, got, refused, line_length, begins, same_bytes, number, number_from, or_form, value_in}
+use Rattle.lines.specs.Reading.{line_with, line_after, line_here, value_at, field_at, standing}
+use Rattle.lines.specs.TextLaws.{lf_at, lf_nowhere}
+use Rattle.lines.specs.declared.reading.ValueAt.{ValueAt}
 
 differ : false ≡ true → ⊥
 differ e = let z : ◌≡◌ {A = ℕ} 0 1 = cc in omega arith
@@ -34,15 +32,6 @@ begins_length (k ∷ key) (b ∷ s) h = suc-le-suc (begins_length key s (and_rig
 
 -- ---- the same bytes
 
-eqb_turned : (m n : ℕ) → eqb m n ≡ eqb n m
-eqb_turned m n = turned (eqb m n) (eqb n m) refl refl
-  where
-    turned : (a b : Bool) → eqb m n ≡ a → eqb n m ≡ b → a ≡ b
-    turned true true p q = refl
-    turned true false p q = absurd (eqb-false n m q (sym (eqb-true m n p)))
-    turned false true p q = absurd (eqb-false m n p (sym (eqb-true n m q)))
-    turned false false p q = refl
-
 pub same_length : (s word : List ℕ) → (length s ≡ length word → ⊥) → false ≡ same_bytes s word
 unfolding same_bytes
 same_length [] [] h = absurd (h refl)
@@ -54,14 +43,7 @@ same_length (a ∷ s) (b ∷ word) h = rw (← same_length s word (λ e. h (ap s
     and_no true = refl
     and_no false = refl
 
-pub same_begins : (s word : List ℕ) → length s ≡ length word → begins word s ≡ same_bytes s word
-unfolding same_bytes begins
-same_begins [] [] h = refl
-same_begins [] (b ∷ word) h = absurd (omega arith)
-same_begins (a ∷ s) [] h = absurd (omega arith)
-same_begins (a ∷ s) (b ∷ word) h = rw (eqb_turned b a, same_begins s word (omega arith))
-
--- ---- where a value stands: the line has the key, and `end` is the place of the LF after it, or the text's end
+-- ---- where a value stands: the line has the key, and the LF is looked for behind it
 
 -- what is left of a line behind its key is as long as the line without the key
 pub key_length : (key s : List ℕ) → begins key (take (line_length s) s) ≡ true → line_length s ≡ length key + line_length (drop (length key) s)
@@ -76,12 +58,16 @@ key_length (k ∷ key) (b ∷ s) h = inner (eqb b LF) (λ e. key_length key s e)
     inner true on e = absurd (differ e)
     inner false on e = omega (arith, on (and_right (eqb k b) (begins key (take (line_length s) s)) e))
 
+-- where the value stands if the line is closed and has the key
+abbrev found : List ℕ → ℕ → List ℕ → ValueAt
+found t at key = record { start = at + length key; len = line_length (drop at t) - length key; next = line_after t at }
+
 module _ (t : List ℕ) (at : ℕ) (key : List ℕ) where
-  pub value_other : begins key (line_here t at) ≡ false → value_at t at key ≡ Refused
+  pub value_other : begins key (line_here t at) ≡ false → value_at t at key ≡ None
   unfolding value_at line_here
   value_other b = rw b (either (line_length (drop at t) <? length (drop at t)))
     where
-      either : (z : Bool) → (if z && false then At (at + length key) (line_length (drop at t) - length key) (line_after t at) else Refused) ≡ Refused
+      either : (z : Bool) → (if z && false then Some (found t at key) else None) ≡ None
       either true = refl
       either false = refl
 
@@ -91,38 +77,36 @@ module _ (t : List ℕ) (at : ℕ) (key : List ℕ) where
     unfolding line_here
     key_fits = omega (arith, simp (length-take, length-drop) at (begins_length key (line_here t at) b))
 
-    module _ (end : ℕ) (ends : end ≡ at + length key + line_length (drop (at + length key) t)) where
-      same : end ≡ at + line_length (drop at t)
-      unfolding line_here
-      same = omega (arith, rw drop-drop at (key_length key (drop at t) b))
+    -- the rest of the text behind the key, in which the LF is looked for
+    behind : drop (at + length key) t ≡ take (length t - (at + length key)) (drop (at + length key) t)
+    behind = sym (take_all (length t - (at + length key)) (drop (at + length key) t) (omega (arith, length-drop (at + length key) t)))
 
-      pub value_unclosed : length t ≤ end → value_at t at key ≡ Refused
-      unfolding value_at
-      value_unclosed h = rw (le-ltb (line_length (drop at t)) (length (drop at t)) (omega (arith, same, length-drop at t)))
+    same : line_length (drop at t) ≡ length key + line_length (drop (at + length key) t)
+    unfolding line_here
+    same = rw drop-drop at (key_length key (drop at t) b)
 
-      pub value_found : end < length t → value_at t at key ≡ At (at + length key) (end - (at + length key)) (end + 1)
-      unfolding value_at line_here
-      value_found h =
-          let closed : (line_length (drop at t) <? length (drop at t)) ≡ true = lt-ltb (line_length (drop at t)) (length (drop at t)) (omega (arith, same, length-drop at t)) in
-          let n : line_length (drop at t) - length key ≡ end - (at + length key) = omega (arith, same) in
-          let m : line_after t at ≡ end + 1 = omega (arith, same) in
-          rw (closed, b, n, m)
+    longer : length (drop at t) ≡ length key + length (drop (at + length key) t)
+    longer = let f = key_fits in omega (arith, f, length-drop at t, length-drop (at + length key) t)
 
--- ---- a part that runs past the end
+    pub value_unclosed : None ≡ position (λ c. eqb c 10) (take (length t - (at + length key)) (drop (at + length key) t)) → value_at t at key ≡ None
+    unfolding value_at
+    value_unclosed e =
+        let h = lf_nowhere (drop (at + length key) t) (rw behind e) in
+        rw (le-ltb (line_length (drop at t)) (length (drop at t)) (omega (arith, same, longer, h)))
 
-module _ (t : List ℕ) (start len : ℕ) where
-  pub part_none : length t < start → [] ≡ take len (drop start t)
-  part_none h = let d : length t ≤ start = omega arith in rw (drop_of_length-le t d, take-nil len)
-
-  pub part_short : length t - start < len → take (length t - start) (drop start t) ≡ take len (drop start t)
-  part_short h =
-      let a : length (drop start t) ≤ length t - start = omega (arith, length-drop start t) in
-      let b : length (drop start t) ≤ len = omega (arith, length-drop start t) in
-      rw (take_all (length t - start) (drop start t) a, take_all len (drop start t) b)
+    pub value_found : (n : ℕ) → Some n ≡ position (λ c. eqb c 10) (take (length t - (at + length key)) (drop (at + length key) t))
+        → value_at t at key ≡ Some (record { start = at + length key; len = n; next = at + length key + n + 1 })
+    unfolding value_at line_here
+    value_found n e =
+        let h = lf_at (drop (at + length key) t) n (rw behind e) in
+        let closed : (line_length (drop at t) <? length (drop at t)) ≡ true = lt-ltb (line_length (drop at t)) (length (drop at t)) (omega (arith, same, longer, h.1)) in
+        let l : line_length (drop at t) - length key ≡ n = omega (arith, same, h.0) in
+        let m : line_after t at ≡ at + length key + n + 1 = omega (arith, same, h.0) in
+        rw (closed, b, l, m)
 
 -- ---- which texts are numbers
 
-pub number_long : (s : List ℕ) → 4 < length s → number s ≡ none
+pub number_long : (s : List ℕ) → 4 < length s → number s ≡ None
 unfolding number
 number_long [] h = refl
 number_long (b ∷ []) h = absurd (omega arith)
@@ -130,16 +114,16 @@ number_long (b ∷ c ∷ bs) h =
     let l : (2 <? length bs) ≡ true = lt-ltb 2 (length bs) (omega arith) in
     rw l (either (eqb b 48))
   where
-    either : (z : Bool) → (if z || true then none else number_from 0 (b ∷ c ∷ bs)) ≡ none
+    either : (z : Bool) → (if z || true then None else number_from 0 (b ∷ c ∷ bs)) ≡ None
     either true = refl
     either false = refl
 
-pub number_none : (s : List ℕ) → length s ≡ 0 → number s ≡ none
+pub number_none : (s : List ℕ) → length s ≡ 0 → number s ≡ None
 unfolding number
 number_none [] h = refl
 number_none (b ∷ s) h = absurd (omega arith)
 
-pub number_zero : (s : List ℕ) → 1 < length s → get_or s 0 0 ≡ 48 → number s ≡ none
+pub number_zero : (s : List ℕ) → 1 < length s → get_or s 0 0 ≡ 48 → number s ≡ None
 unfolding number
 number_zero [] h e = refl
 number_zero (b ∷ []) h e = absurd (omega arith)
@@ -167,95 +151,73 @@ drop_taken (suc k) (suc n) (b ∷ s) = let z : suc n - suc k ≡ n - k = omega a
 
 module _ {A : Type 0} (meaning : List ℕ → Option A) (t : List ℕ) (at : ℕ) (key : List ℕ) where
   -- a value that stands at a place: the line's value, and the line after it
-  pub value_there : (start len next : ℕ) → At start len next ≡ value_at t at key
-      → (value_in meaning key (drop at t) ≡ meaning (take len (drop start t))) × (next ≡ line_after t at)
+  pub value_there : (v : ValueAt) → Some v ≡ value_at t at key
+      → (value_in meaning key (drop at t) ≡ meaning (take v.len (drop v.start t))) × (v.next ≡ line_after t at)
   unfolding value_at value_in
-  value_there start len next e = inner (line_length (drop at t) <? length (drop at t)) (begins key (take (line_length (drop at t)) (drop at t))) e
+  value_there v e = inner (line_length (drop at t) <? length (drop at t)) (begins key (take (line_length (drop at t)) (drop at t))) e
     where
       n : ℕ
       n = line_length (drop at t)
 
-      inner : (b d : Bool) → At start len next ≡ (if b && d then At (at + length key) (n - length key) (line_after t at) else Refused)
-          → ((if b && d then meaning (drop (length key) (take n (drop at t))) else none) ≡ meaning (take len (drop start t)))
-          × (next ≡ line_after t at)
-      inner true true e =
-          let x : start ≡ at + length key = cc in
-          let y : len ≡ n - length key = cc in
-          let z : next ≡ line_after t at = cc in
-          (rw (x, y, drop_taken, drop-drop), z)
-      inner true false e = absurd (let z : ◌≡◌ {A = ℕ} 0 1 = cc in omega arith)
-      inner false d e = absurd (let z : ◌≡◌ {A = ℕ} 0 1 = cc in omega arith)
+      inner : (b d : Bool) → Some v ≡ (if b && d then Some (found t at key) else None)
+          → ((if b && d then meaning (drop (length key) (take n (drop at t))) else None) ≡ meaning (take v.len (drop v.start t)))
+          × (v.next ≡ line_after t at)
+      inner true true e = rw (same_Some v (found t at key) e) (rw (drop_taken, drop-drop), refl)
+      inner true false e = absurd (none-some v (sym e))
+      inner false d e = absurd (none-some v (sym e))
 
-  pub value_none : Refused ≡ value_at t at key → value_in meaning key (drop at t) ≡ none
+  pub value_none : None ≡ value_at t at key → value_in meaning key (drop at t) ≡ None
   unfolding value_at value_in
   value_none e = inner (line_length (drop at t) <? length (drop at t)) (begins key (take (line_length (drop at t)) (drop at t))) e
     where
       n : ℕ
       n = line_length (drop at t)
 
-      inner : (b d : Bool) → Refused ≡ (if b && d then At (at + length key) (n - length key) (line_after t at) else Refused)
-          → (if b && d then meaning (drop (length key) (take n (drop at t))) else none) ≡ none
-      inner true true e = absurd (let z : ◌≡◌ {A = ℕ} 0 1 = cc in omega arith)
+      inner : (b d : Bool) → None ≡ (if b && d then Some (found t at key) else None)
+          → (if b && d then meaning (drop (length key) (take n (drop at t))) else None) ≡ None
+      inner true true e = absurd (none-some _ e)
       inner true false e = refl
       inner false d e = refl
 
--- ---- a number on a line
-
-module _ (t : List ℕ) (at : ℕ) (key : List ℕ) where
-  pub number_there : (start len next : ℕ) (v : List ℕ) (m : Number) → At start len next ≡ value_at t at key
-      → v ≡ take len (drop start t) → m ≡ number_read (number v) → number_then next m ≡ number_at t at key
-  unfolding number_at
-  number_there start len next v m e p r =
-      let w = value_there number t at key start len next e in
-      rw (w.0, ← w.1, r, p)
-
-  pub number_refused : Refused ≡ value_at t at key → Bad ≡ number_at t at key
-  unfolding number_at
-  number_refused e = rw (value_none number t at key e)
+  -- a field read: its value is found, and has a meaning
+  pub field_steps : (o : Option ValueAt) → o ≡ value_at t at key → field_at meaning t at key
+      ≡ option_and_then (λ v. option_map (λ a. (a, v.next)) (meaning (take v.len (drop v.start t)))) o
+  unfolding field_at
+  field_steps (Some v) e = let w = value_there v e in rw (w.0, ← w.1)
+  field_steps None e = rw (value_none e)
 
 -- ---- a field at a place is the definitions' field
 
-module _ {A : Type 0} (meaning : List ℕ → Option A) (key : String) (t : List ℕ) (at l m : ℕ) where
-  -- a value that was read: the reader then stands before the next line, m
-  pub field_got : m ≡ suc l → (v : A) → value_in meaning (bytes key) (drop at t) ≡ some v
-      → field meaning key (standing t at l) ≡ got v (standing t (line_after t at) m)
-  unfolding field
-  field_got n v e =
-      let k : at + suc (line_length (drop at t)) ≡ line_after t at = omega arith in
-      rw (e, drop-drop, k, n)
-
-  pub field_refused : value_in meaning (bytes key) (drop at t) ≡ none → field meaning key (standing t at l) ≡ refused (Form l)
-  unfolding field
-  field_refused e = rw e
-
+module _ {A : Type 0} (meaning : List ℕ → Option A) (key : List ℕ) (t : List ℕ) (at l m : ℕ) where
   -- the line of a value is closed
-  pub value_within : (v : A) → value_in meaning (bytes key) (drop at t) ≡ some v → line_after t at ≤ length t
+  pub value_within : (v : A) → value_in meaning key (drop at t) ≡ Some v → line_after t at ≤ length t
   unfolding value_in
-  value_within v e = inner (line_length (drop at t) <? length (drop at t)) (begins (bytes key) (take (line_length (drop at t)) (drop at t))) refl e
+  value_within v e = inner (line_length (drop at t) <? length (drop at t)) (begins key (take (line_length (drop at t)) (drop at t))) refl e
     where
       inner : (b d : Bool) → (line_length (drop at t) <? length (drop at t)) ≡ b
-          → (if b && d then meaning (drop (length (bytes key)) (take (line_length (drop at t)) (drop at t))) else none) ≡ some v
+          → (if b && d then meaning (drop (length key) (take (line_length (drop at t)) (drop at t))) else None) ≡ Some v
           → line_after t at ≤ length t
       inner true d p e = omega (arith, simp length-drop at (ltb-true (line_length (drop at t)) (length (drop at t)) p))
-      inner false d p e = absurd (let z : ◌≡◌ {A = ℕ} 0 1 = cc in omega arith)
+      inner false d p e = absurd (none-some v e)
 
-module _ (key : String) (t : List ℕ) (at l m : ℕ) where
-  number_some : (o : Option ℕ) (n next after : ℕ) → Got n next ≡ number_then after (number_read o) → (o ≡ some n) × (next ≡ after)
-  number_some (some k) n next after e = let p : k ≡ n = cc in let q : next ≡ after = cc in (ap some p, q)
-  number_some none n next after e = absurd (let z : ◌≡◌ {A = ℕ} 0 1 = cc in omega arith)
+  -- a value that was read, and the place after its line: the reader then stands before the next line, m
+  pub field_got : m ≡ suc l → (v : A × ℕ) → Some v ≡ field_at meaning t at key
+      → (line_with meaning key (standing t at l) ≡ got v.0 (standing t v.1 m)) × (v.1 ≤ length t)
+  unfolding field_at
+  field_got n v e = inner (value_in meaning key (drop at t)) refl e
+    where
+      inner : (o : Option A) → value_in meaning key (drop at t) ≡ o → Some v ≡ option_map (λ a. (a, line_after t at)) o
+          → (or_form o (standing t at l) ≡ got v.0 (standing t v.1 m)) × (v.1 ≤ length t)
+      inner (Some a) p e =
+          let w : v ≡ (a, line_after t at) = same_Some v (a, line_after t at) e in
+          let k : at + suc (line_length (drop at t)) ≡ line_after t at = omega arith in
+          rw w (rw (drop-drop, k, n), value_within a p)
+      inner None p e = absurd (none-some v (sym e))
 
-  number_no : (o : Option ℕ) (after : ℕ) → Bad ≡ number_then after (number_read o) → o ≡ none
-  number_no (some k) after e = absurd (let z : ◌≡◌ {A = ℕ} 0 1 = cc in omega arith)
-  number_no none after e = refl
-
-  -- a number field that was read
-  pub number_got : m ≡ suc l → (n next : ℕ) → Got n next ≡ number_at t at (bytes key)
-      → (field number key (standing t at l) ≡ got n (standing t next m)) × (next ≤ length t)
-  unfolding number_at
-  number_got step n next e =
-      let w = number_some (value_in number (bytes key) (drop at t)) n next (line_after t at) e in
-      rw w.1 (field_got number key t at l m step n w.0, value_within number key t at l m n w.0)
-
-  pub number_bad : Bad ≡ number_at t at (bytes key) → field number key (standing t at l) ≡ refused (Form l)
-  unfolding number_at
-  number_bad e = field_refused number key t at l m (number_no (value_in number (bytes key) (drop at t)) (line_after t at) e)
+  pub field_refused : None ≡ field_at meaning t at key → line_with meaning key (standing t at l) ≡ refused (Form l)
+  unfolding field_at
+  field_refused e = inner (value_in meaning key (drop at t)) e
+    where
+      inner : (o : Option A) → ◌≡◌ {A = Option (A × ℕ)} None (option_map (λ a. (a, line_after t at)) o) → or_form o (standing t at l) ≡ refused (Form l)
+      inner (Some a) e = absurd (none-some _ e)
+      inner None e = refl

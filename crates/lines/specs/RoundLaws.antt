@@ -8,7 +8,7 @@ use Rattle.std.proofs.Math.Path.{◌≡◌, refl, sym, ap}
 use Rattle.std.specs.Prelude.{Bool, ◌&&◌, if◌then◌else◌}
 use Rattle.std.proofs.Math.Bool.{true, false}
 use mathlib.Core.List.{List, [], ◌∷◌, ◌++◌, flat_map, append_assoc}
-use Rattle.std.proofs.Math.Option.{Option, none, some}
+use Rattle.std.specs.Prelude.{Option, None, Some}
 use Rattle.std.proofs.Math.ListN.{length, take, drop, length-append}
 use Rattle.std.proofs.Math.Seq.{take-append_seam, drop-append_seam, drop-append-add}
 use borrow.Author.Tests.{eq-eqb, ne_eqb, eqb-true, lt-ltb, ltb-true}
@@ -106,14 +106,14 @@ module _ {A : Type 0} (meaning : List ℕ → Option A) (key : List ℕ) where
       (rw (n, lt-ltb _ _ c, t, begins_append key v, drop-append_seam key v), rw (n, e) (drop-append-add l (LF ∷ rest) 1))
 
   -- a value that was read stands on the line
-  value_back : (s : List ℕ) (a : A) → value_in meaning key s ≡ some a
-      → (v : List ℕ) × (s ≡ key ++ v ++ LF ∷ drop (suc (line_length s)) s) × (meaning v ≡ some a)
+  value_back : (s : List ℕ) (a : A) → value_in meaning key s ≡ Some a
+      → (v : List ℕ) × (s ≡ key ++ v ++ LF ∷ drop (suc (line_length s)) s) × (meaning v ≡ Some a)
   unfolding value_in
   value_back s a e = pick (line_length s <? length s) (begins key (take (line_length s) s)) (ltb-true (line_length s) (length s)) (begins_split key (take (line_length s) s)) e
     where
       pick : (x y : Bool) → (x ≡ true → line_length s < length s) → (y ≡ true → take (line_length s) s ≡ key ++ drop (length key) (take (line_length s) s))
-          → (if x && y then meaning (drop (length key) (take (line_length s) s)) else none) ≡ some a
-          → (v : List ℕ) × (s ≡ key ++ v ++ LF ∷ drop (suc (line_length s)) s) × (meaning v ≡ some a)
+          → (if x && y then meaning (drop (length key) (take (line_length s) s)) else None) ≡ Some a
+          → (v : List ℕ) × (s ≡ key ++ v ++ LF ∷ drop (suc (line_length s)) s) × (meaning v ≡ Some a)
       pick true true f g e =
           (drop (length key) (take (line_length s) s), line_split s (f refl) ∙ ap (λ (l : List ℕ). l ++ LF ∷ drop (suc (line_length s)) s) (g refl), e)
       pick true false f g e = nothing e
@@ -142,7 +142,7 @@ module _ {A B : Type 0} where
 
 module _ {A : Type 0} (meaning : List ℕ → Option A) (key : String) where
   -- a line that stands there is read
-  pub field_there : (a : A) (l : ℕ) (v rest : List ℕ) → plain (bytes key) ≡ true → plain v ≡ true → meaning v ≡ some a
+  pub field_there : (a : A) (l : ℕ) (v rest : List ℕ) → plain (bytes key) ≡ true → plain v ≡ true → meaning v ≡ Some a
       → field meaning key (cursor l (line key v ++ rest)) ≡ got a (cursor (suc l) rest)
   unfolding field
   field_there a l v rest p q m =
@@ -155,17 +155,17 @@ module _ {A : Type 0} (meaning : List ℕ → Option A) (key : String) where
 
   -- a line that was read stands there
   pub field_back : (a : A) (here next : Cursor) → field meaning key here ≡ got a next
-      → (v : List ℕ) × (here.text ≡ line key v ++ next.text) × (meaning v ≡ some a)
+      → (v : List ℕ) × (here.text ≡ line key v ++ next.text) × (meaning v ≡ Some a)
   unfolding field
   field_back a here next e = pick (value_in meaning (bytes key) here.text) (value_back meaning (bytes key) here.text) e
     where
-      pick : (o : Option A) → ((b : A) → o ≡ some b → (v : List ℕ) × (here.text ≡ bytes key ++ v ++ LF ∷ drop (suc (line_length here.text)) here.text) × (meaning v ≡ some b))
-          → or_form o here ≡ got a next → (v : List ℕ) × (here.text ≡ line key v ++ next.text) × (meaning v ≡ some a)
-      pick none f e = unread e
-      pick (some b) f e =
+      pick : (o : Option A) → ((b : A) → o ≡ Some b → (v : List ℕ) × (here.text ≡ bytes key ++ v ++ LF ∷ drop (suc (line_length here.text)) here.text) × (meaning v ≡ Some b))
+          → or_form o here ≡ got a next → (v : List ℕ) × (here.text ≡ line key v ++ next.text) × (meaning v ≡ Some a)
+      pick None f e = unread e
+      pick (Some b) f e =
           let p : b ≡ a = cc in
           let q : drop (suc (line_length here.text)) here.text ≡ next.text = cc in
-          let h = f a (ap some p) in
+          let h = f a (ap Some p) in
           (h.0, h.1 ∙ joined h.0 _ next.text q, h.2)
 
 -- ---- a reader and the text of what it reads: each undoes the other
@@ -250,8 +250,8 @@ module _ {A : Type 0} where
   field_refuses meaning key here answer e = pick (value_in meaning (bytes key) here.text) e
     where
       pick : (o : Option A) → or_form o here ≡ refused answer → accepted answer ≡ false
-      pick none e = let p : Form here.line_no ≡ answer = cc in rw (← p)
-      pick (some a) e = absurd (let z : ◌≡◌ {A = ℕ} 0 1 = cc in omega arith)
+      pick None e = let p : Form here.line_no ≡ answer = cc in rw (← p)
+      pick (Some a) e = absurd (let z : ◌≡◌ {A = ℕ} 0 1 = cc in omega arith)
 
   pub then_refuses : {B : Type 0} (reader : Reader A) (rest : A → Reader B) → Refuses reader → ((a : A) → Refuses (rest a)) → Refuses (reader >>= rest)
   then_refuses reader rest f g here answer e = pick (reader here) (f here) e

@@ -9,10 +9,7 @@ ghost use Rattle.lines.specs.Writing.{put_fit, place_after, number_line_of};
 fn has_room(room: usize, at: usize, len: usize) -> bool
     ensures { result ≡ (at + len ≤? room) }
 {
-    if at > room {
-        return false;
-    }
-    len <= room - at
+    at <= room && len <= room - at
 }
 
 // All of w at `at`.
@@ -24,12 +21,9 @@ pub fn put_bytes(out: &mut [u8], at: usize, w: &[u8]) -> usize
     if !has_room(out.len(), at, w.len()) {
         return at;
     }
-    let mut j = 0;
-    while j < w.len() {
-        out[at + j] = w[j];
-        j += 1;
-    }
-    at + j
+    let end = at + w.len();
+    out[at..end].copy_from_slice(w);
+    end
 }
 
 // How many digits n has.
@@ -40,7 +34,7 @@ pub fn number_len(n: u32) -> usize
     let mut rest = n;
     let mut len: usize = 1;
     while rest >= 10 {
-        rest = rest / 10;
+        rest /= 10;
         len += 1;
     }
     len
@@ -51,7 +45,7 @@ fn digit(d: u32) -> u8
     requires { d < 10 }
     ensures { result ≡ 48 + d }
 {
-    (48 + d) as u8
+    b'0' + d as u8
 }
 
 // The digits of n at `at`, from the last to the first.
@@ -69,7 +63,7 @@ pub fn put_number(out: &mut [u8], at: usize, n: u32) -> usize
     while rest >= 10 {
         out[end] = digit(rest % 10);
         end -= 1;
-        rest = rest / 10;
+        rest /= 10;
     }
     out[end] = digit(rest);
     at + len

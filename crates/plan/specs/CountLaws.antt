@@ -9,7 +9,7 @@ use Rattle.words.specs.Cases.{by_less, by_equal}
 use Rattle.plan.specs.declared.Plan.{Plan}
 use Rattle.plan.specs.Limits.{max_slots, max_jobs}
 use Rattle.plan.specs.Plan.{naming, table_at, table_slots, counts_at}
-use Rattle.plan.specs.Counts.{max_count, counted_with, count_place}
+use Rattle.plan.specs.Counts.{max_count, counted_with}
 
 -- ---- one count
 
@@ -60,51 +60,23 @@ counts_at_lem p t i h = count_up_at (table_slots p t) 0 1 max_jobs i h
 pub counts_le : (p : Plan) (t i : ℕ) → i < max_jobs → get_or (counts_at p t) i 0 ≤ t
 counts_le p t i h = rw (counts_at_lem p t i h) (naming_take (1 + i) t p.table)
 
--- ---- counted, by its ways out: `at` is the place of job k
+-- ---- counted, by its ways out
 
 pub counted_none : (counts : List ℕ) (k : ℕ) → k < 1 → counts ≡ counted_with counts k
 unfolding counted_with
 counted_none counts k h = rw (lt-leb 1 k h)
 
-module _ (counts : List ℕ) (k at : ℕ) (one : 1 ≤ k) (e : at ≡ k - 1) where
-  pub counted_above : max_jobs ≤ at → counts ≡ counted_with counts k
-  unfolding counted_with
-  counted_above h = rw (le-leb 1 k one, lt-leb k max_jobs (omega arith))
+pub counted_above : (counts : List ℕ) (k : ℕ) → max_jobs < k → counts ≡ counted_with counts k
+unfolding counted_with
+counted_above counts k h = rw (le-leb 1 k (omega arith), lt-leb k max_jobs h)
 
-  module _ (few : at < max_jobs) where
-    pub counted_full : max_count ≤ get_or counts at 0 → counts ≡ counted_with counts k
-    unfolding counted_with
-    counted_full h = let l : max_count ≤ get_or counts (k - 1) 0 = rw (sym e) h in rw (le-leb 1 k one, le-leb k max_jobs (omega arith), le-ltb (get_or counts (k - 1) 0) max_count l)
+pub counted_full : (counts : List ℕ) (k : ℕ) → 1 ≤ k → k ≤ max_jobs → max_count ≤ get_or counts (k - 1) 0 → counts ≡ counted_with counts k
+unfolding counted_with
+counted_full counts k one few h = rw (le-leb 1 k one, le-leb k max_jobs few, le-ltb (get_or counts (k - 1) 0) max_count h)
 
-    pub counted_more : get_or counts at 0 < max_count → set counts at (get_or counts at 0 + 1) ≡ counted_with counts k
-    unfolding counted_with
-    counted_more h = let l : get_or counts (k - 1) 0 < max_count = rw (sym e) h in rw (e, le-leb 1 k one, le-leb k max_jobs (omega arith), lt-ltb (get_or counts (k - 1) 0) max_count l)
-
--- ---- the place of a count
-
-pub place_none : (k : ℕ) → k < 1 → max_jobs ≡ count_place k
-unfolding count_place
-place_none k h = rw (lt-leb 1 k h)
-
-pub place_above : (k at : ℕ) → 1 ≤ k → at ≡ k - 1 → max_jobs ≤ at → max_jobs ≡ count_place k
-unfolding count_place
-place_above k at one e h = rw (le-leb 1 k one, lt-leb k max_jobs (omega arith))
-
-pub place_there : (k at : ℕ) → 1 ≤ k → at ≡ k - 1 → at < max_jobs → at ≡ count_place k
-unfolding count_place
-place_there k at one e h = rw (le-leb 1 k one, le-leb k max_jobs (omega arith)) e
-
-place_of_lem : (i : ℕ) → i < max_jobs → count_place (1 + i) ≡ i
-place_of_lem i h = sym (place_there (1 + i) i (omega arith) (omega arith) h)
-
-place_back : (k at : ℕ) → count_place k ≡ at → at < max_jobs → k ≡ 1 + at
-place_back k at e h =
-    by_less k 1
-    (λ none. let q = place_none k none in absurd (omega arith))
-    (λ one.
-    by_less (k - 1) max_jobs
-    (λ few. let q = place_there k (k - 1) one refl few in omega arith)
-    (λ above. let q = place_above k (k - 1) one refl above in absurd (omega arith)))
+pub counted_more : (counts : List ℕ) (k : ℕ) → 1 ≤ k → k ≤ max_jobs → get_or counts (k - 1) 0 < max_count → set counts (k - 1) (get_or counts (k - 1) 0 + 1) ≡ counted_with counts k
+unfolding counted_with
+counted_more counts k one few h = rw (le-leb 1 k one, le-leb k max_jobs few, lt-ltb (get_or counts (k - 1) 0) max_count h)
 
 -- ---- one slot of the table
 
@@ -131,27 +103,18 @@ counts_next_job p t k l few e =
     rw (get_or-set_other (counts_at p t) k i _ 0 q, counts_next_at p t i l b, ne_eqb (table_at p t) (1 + i) (λ z. q (omega arith)))
     (sym (add-zero _))))
 
--- counts that are those of border t, by the place of the named job's count
-module _ (p : Plan) (t at : ℕ) (counts : List ℕ) (here : counts ≡ counts_at p t) (l : t < length p.table) (e : at ≡ count_place (table_at p t)) where
-  -- it has none
-  pub counts_stay : max_jobs ≤ at → counts ≡ counts_at p (t + 1)
-  counts_stay h = here ∙ counts_next_none p t l (λ i b q. let n : count_place (table_at p t) ≡ i = rw q (place_of_lem i b) in omega arith)
-
-  -- it has one, which is raised
-  pub counts_raise : at < max_jobs → set counts at (get_or counts at 0 + 1) ≡ counts_at p (t + 1)
-  counts_raise h = rw here (counts_next_job p t at l h (place_back (table_at p t) at (sym e) h))
-
 -- the counts of border t and slot t give those of border t + 1
 pub counts_step : (p : Plan) (t : ℕ) → t < length p.table → t < max_count → counted_with (counts_at p t) (table_at p t) ≡ counts_at p (t + 1)
 counts_step p t l small =
     by_less (table_at p t) 1
     (λ none. sym (counted_none _ _ none) ∙ counts_next_none p t l (λ i h e. omega arith))
     (λ one.
-    by_less (table_at p t - 1) max_jobs
+    by_less max_jobs (table_at p t)
+    (λ above. sym (counted_above _ _ above) ∙ counts_next_none p t l (λ i h e. omega arith))
     (λ few.
-    sym (counted_more _ _ _ one refl few (omega (arith, counts_le p t (table_at p t - 1) few)))
-    ∙ counts_next_job p t (table_at p t - 1) l few (omega arith))
-    (λ above. sym (counted_above _ _ _ one refl above) ∙ counts_next_none p t l (λ i h e. omega arith)))
+    let place : table_at p t - 1 < max_jobs = omega arith in
+    sym (counted_more _ _ one few (omega (arith, counts_le p t (table_at p t - 1) place)))
+    ∙ counts_next_job p t (table_at p t - 1) l place (omega arith)))
 
 -- the same of counts that are those of border t
 pub counts_on : (p : Plan) (t : ℕ) (counts : List ℕ) → counts ≡ counts_at p t → t < length p.table → t < max_count → counted_with counts (table_at p t) ≡ counts_at p (t + 1)

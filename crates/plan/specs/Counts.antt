@@ -12,7 +12,3 @@ unfoldable pub counted_with : List ℕ → ℕ → List ℕ
 counted_with counts k =
     let before = get_or counts (k - 1) 0 in
     if one_to max_jobs k && (before <? max_count) then set counts (k - 1) (before + 1) else counts
-
--- the place of job k's count, max_jobs where k names no job that has one
-unfoldable pub count_place : ℕ → ℕ
-count_place k = if one_to max_jobs k then k - 1 else max_jobs

@@ -1,6 +1,5 @@
 pub mod Limits
 pub mod Plan
 pub mod Rules
-pub mod RuleLaws
 pub mod Counts
 pub mod CountLaws

@@ -2,13 +2,13 @@
 // The text is in plan_text, the judgement of a whole plan in acceptance.
 #![tactic(auto)]
 
-ghost use Rattle.std.specs.Prelude.{◌≡◌, map, take, ◌≤◌, ◌<◌};
+ghost use Rattle.std.specs.Prelude.{◌≡◌, map, ◌<◌};
 ghost use Rattle.words.specs.Words.{every};
 ghost use Rattle.answers.specs.Answer.{SlotLimit, JobLimit, ◌unless◌};
 ghost use Rattle.plan.specs.Limits.{max_slots, max_jobs, one_to};
 ghost use Rattle.plan.specs.Plan.{blank_job, blank_plan, is_hi, counts_at};
 ghost use Rattle.plan.specs.Rules.{window_holds, budget_holds, windows_hold};
-ghost use Rattle.plan.specs.Counts.{counted_with, count_place};
+ghost use Rattle.plan.specs.Counts.{counted_with};
 
 use answers::{Answer, Refusal};
 
@@ -16,7 +16,7 @@ pub const SLOTS: usize = 512;
 
 pub const JOBS: usize = 32;
 
-#[derive(Clone, Copy)]
+#[derive(Clone, Copy, PartialEq, Eq)]
 pub enum Level {
     Lo,
     Hi,
@@ -44,17 +44,13 @@ pub struct Plan {
 pub fn wide(x: u16) -> usize
     ensures { (result ≡ x) × (result < 65536) }
 {
-    x as usize
+    usize::from(x)
 }
 
 pub fn is_hi(j: Job) -> bool
     ensures { result ≡ is_hi j }
 {
-    let level = j.level;
-    match level {
-        Level::Lo => false,
-        Level::Hi => true,
-    }
+    j.level == Level::Hi
 }
 
 pub fn blank_job() -> Job
@@ -72,25 +68,26 @@ pub fn blank_job() -> Job
 pub fn blank_plan() -> Plan
     ensures { result ≡ blank_plan }
 {
-    let b = blank_job();
-    let job = [b; JOBS];
-    let table = [0u16; SLOTS];
     Plan {
         slots: 0,
         jobs: 0,
-        job: job,
-        table: table,
+        job: [blank_job(); JOBS],
+        table: [0; SLOTS],
     }
+}
+
+// n is 1 to the limit.
+fn one_to(limit: usize, n: u16) -> bool
+    ensures { result ≡ one_to limit n }
+{
+    (1..=limit).contains(&usize::from(n))
 }
 
 // 2: N not 1..512.
 pub fn slot_limit(slots: u16) -> Answer
     ensures { result ≡ (SlotLimit unless one_to max_slots slots) }
 {
-    if slots < 1 {
-        return Err(Refusal::SlotLimit);
-    }
-    if wide(slots) <= SLOTS {
+    if one_to(SLOTS, slots) {
         Ok(())
     } else {
         Err(Refusal::SlotLimit)
@@ -101,10 +98,7 @@ pub fn slot_limit(slots: u16) -> Answer
 pub fn job_limit(jobs: u16) -> Answer
     ensures { result ≡ (JobLimit unless one_to max_jobs jobs) }
 {
-    if jobs < 1 {
-        return Err(Refusal::JobLimit);
-    }
-    if wide(jobs) <= JOBS {
+    if one_to(JOBS, jobs) {
         Ok(())
     } else {
         Err(Refusal::JobLimit)
@@ -112,124 +106,56 @@ pub fn job_limit(jobs: u16) -> Answer
 }
 
 // r < d <= N.
+#[tactic(auto, unfolding(crate::specs::Rules::window_holds))]
 pub fn window_holds(slots: u16, j: Job) -> bool
     ensures { result ≡ window_holds slots j }
 {
-    if j.release < j.deadline {
-        j.deadline <= slots
-    } else {
-        false
-    }
+    j.release < j.deadline && j.deadline <= slots
 }
 
 // 1 <= lo <= hi <= N, and a LO job has lo = hi.
+#[tactic(auto, unfolding(crate::specs::Rules::budget_holds))]
 pub fn budget_holds(slots: u16, j: Job) -> bool
     ensures { result ≡ budget_holds slots j }
 {
-    if j.lo < 1 {
-        return false;
-    }
-    if j.hi < j.lo {
-        return false;
-    }
-    if slots < j.hi {
-        return false;
-    }
-    if is_hi(j) { true } else { j.lo == j.hi }
+    1 <= j.lo && j.lo <= j.hi && j.hi <= slots && (is_hi(j) || j.lo == j.hi)
 }
 
-// Every window of the first n jobs holds.
-fn every_window(p: Plan, n: usize) -> bool
-    requires { n ≤ max_jobs }
-    ensures { result ≡ every (map (window_holds p.slots) (take n p.job)) }
+// Every window holds.
+fn every_window(jobs: &[Job], slots: u16) -> bool
+    ensures { result ≡ every (map (window_holds slots) jobs.now) }
 {
-    let slots = p.slots;
-    let mut i: usize = 0;
-    while i < n {
-        let j = p.job[i];
-        if !window_holds(slots, j) {
-            return false;
-        }
-        i += 1;
-    }
-    true
+    jobs.iter().all(|j| window_holds(slots, *j))
 }
 
 // N and n are within their limits and every window holds.
+#[tactic(auto, unfolding(crate::specs::Rules::windows_hold))]
 pub fn windows_hold(p: Plan) -> bool
     ensures { result ≡ windows_hold p }
 {
-    let slots = p.slots;
-    let jobs = p.jobs;
-    if slots < 1 {
-        return false;
-    }
-    if SLOTS < wide(slots) {
-        return false;
-    }
-    if jobs < 1 {
-        return false;
-    }
-    let n = wide(jobs);
-    if JOBS < n {
-        return false;
-    }
-    every_window(p, n)
+    one_to(SLOTS, p.slots)
+        && one_to(JOBS, p.jobs)
+        && every_window(&p.job[..usize::from(p.jobs)], p.slots)
 }
 
 // The counts with one more for job k.
+#[tactic(auto, unfolding(crate::specs::Counts::counted_with))]
 pub fn count_slot(counts: &mut [u16; JOBS], k: u16)
     ensures { counts.new ≡ counted_with counts.old k }
 {
-    if k < 1 {
-        return;
-    }
-    let at = wide(k - 1);
-    if JOBS <= at {
-        return;
-    }
-    let before = counts[at];
-    if before < 65535 {
-        counts[at] = before + 1;
+    if one_to(JOBS, k) {
+        let count = &mut counts[usize::from(k) - 1];
+        *count = count.saturating_add(1);
     }
 }
 
-// The place of the count of job k, JOBS where k names no job that has one.
-fn count_place(k: u16) -> usize
-    ensures { result ≡ count_place k }
-{
-    if k < 1 {
-        return JOBS;
-    }
-    let at = wide(k - 1);
-    if at < JOBS { at } else { JOBS }
-}
-
-// The counts at a border of the table, counted in place.
-fn counts_to(p: Plan, border: usize) -> [u16; JOBS]
-    requires { border ≤ max_slots }
-    ensures { result ≡ counts_at p border }
-{
-    let mut counts = [0u16; JOBS];
-    let mut i: usize = 0;
-    while i < border {
-        let name = p.table[i];
-        let at = count_place(name);
-        if at < JOBS {
-            counts[at] = counts[at] + 1;
-        }
-        i += 1;
-    }
-    counts
-}
-
-// The counts of table slots at border t, one per job.
+// The counts of table slots at border t, one per job; past the table's end they stay.
 pub fn counts_at(p: Plan, t: u16) -> [u16; JOBS]
     ensures { result ≡ counts_at p t }
 {
-    let border = wide(t);
-    if border < SLOTS {
-        return counts_to(p, border);
+    let mut counts = [0; JOBS];
+    for k in &p.table[..SLOTS.min(usize::from(t))] {
+        count_slot(&mut counts, *k);
     }
-    counts_to(p, SLOTS)
+    counts
 }

@@ -2,7 +2,7 @@
 use Rattle.std.specs.Prelude.{ℕ, ◌+◌, ◌*◌, ◌≤◌, ◌<◌, ◌≡◌, refl, Bool, true, false, ◌||◌, List, ◌++◌, length}
 use Rattle.std.proofs.Common.{arith, sym, ◌∙◌, length-append, ne_eqb, leb-true, leb-false}
 use Rattle.std.proofs.lemmas.Bool.{false≢true}
-use Rattle.std.proofs.Math.Option.{none}
+use Rattle.std.specs.Prelude.{None}
 use Rattle.words.specs.Words.{◌≤?◌}
 use Rattle.words.specs.Cases.{by_test, both_hold}
 use Rattle.answers.specs.Answer.{Answer, SlotLimit, JobLimit, accepted, ◌unless◌, first_place}
@@ -16,7 +16,7 @@ use Rattle.plan.specs.Limits.{max_slots, max_jobs, one_to}
 use Rattle.plan_text.specs.Read.{level_in, next_job, next_plan, start_of, only_plan, read_plan}
 
 -- a level has two bytes
-level_long : (v : List ℕ) → 2 < length v → level_in v ≡ none
+level_long : (v : List ℕ) → 2 < length v → level_in v ≡ None
 unfolding level_in
 level_long v h = rw (sym (same_length v (bytes "HI") (λ e. omega arith)), sym (same_length v (bytes "LO") (λ e. omega arith)))
 
@@ -110,6 +110,6 @@ text_stays s u le = after (next_plan (start_of s)) refl
     after (refused x) e = rw (plan_stays s u x (omega arith) e, e)
     after (got p next) e =
         let g = plan_decided.goes 1 s u p next.line_no next.text e in
-        let some : length next.text ≡ 0 → ⊥ = (λ z. omega (arith, g.1)) in
+        let one_more : length next.text ≡ 0 → ⊥ = (λ z. omega (arith, g.1)) in
         let more : length (next.text ++ u) ≡ 0 → ⊥ = (λ z. omega (arith, g.1, length-append next.text u)) in
-        rw (g.0, e, ne_eqb (length (next.text ++ u)) 0 more, ne_eqb (length next.text) 0 some)
+        rw (g.0, e, ne_eqb (length (next.text ++ u)) 0 more, ne_eqb (length next.text) 0 one_more)

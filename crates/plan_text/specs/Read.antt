@@ -1,7 +1,7 @@
 -- The plan text and its reading.
 use Rattle.std.specs.Prelude.{ℕ, if◌then◌else◌}
 use mathlib.Core.List.{List, ◌++◌, flat_map}
-use Rattle.std.proofs.Math.Option.{Option, none, some}
+use Rattle.std.specs.Prelude.{Option, None, Some}
 use Rattle.plan.specs.declared.Level.{Level}
 use Rattle.plan.specs.declared.Level.TheVariants.{Lo, Hi}
 use Rattle.plan.specs.declared.Job.{Job}
@@ -40,9 +40,9 @@ plan_text p =
 -- a level is HI or LO
 unfoldable pub level_in : List ℕ → Option Level
 level_in s =
-    if same_bytes s (bytes "HI") then some Hi
-    else if same_bytes s (bytes "LO") then some Lo
-    else none
+    if same_bytes s (bytes "HI") then Some Hi
+    else if same_bytes s (bytes "LO") then Some Lo
+    else None
 
 -- the five lines of a job
 unfoldable pub next_job : Reader Job

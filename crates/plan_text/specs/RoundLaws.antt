@@ -2,7 +2,7 @@
 use Rattle.std.specs.Prelude.{ℕ, suc, ◌≤◌, ◌≡◌, refl, Bool, true, false, ◌&&◌, length, if◌then◌else◌}
 use Rattle.std.proofs.Common.{arith, sym, ap, ◌∙◌, take_at, eqb-true, leb-true}
 use mathlib.Core.List.{List, [], ◌∷◌, ◌++◌, flat_map, append_assoc}
-use Rattle.std.proofs.Math.Option.{none, some}
+use Rattle.std.specs.Prelude.{None, Some}
 use Rattle.words.specs.Words.{◌≤?◌, ◌=?◌, filled}
 use Rattle.answers.specs.Answer.{Answer, SlotLimit, JobLimit, accepted, ◌unless◌}
 use Rattle.plan.specs.declared.Level.{Level}
@@ -30,16 +30,16 @@ same_bytes_lem (a ∷ s) (b ∷ t) h = step (a =? b) (eqb-true a b) (same_bytes_
     step true f ih h = rw (f refl, ih h)
     step false f ih h = absurd (let z : ◌≡◌ {A = ℕ} 0 1 = cc in omega arith)
 
-level_there : (v : Level) → level_in (level_text v) ≡ some v
+level_there : (v : Level) → level_in (level_text v) ≡ Some v
 unfolding level_in same_bytes
 level_there Hi = refl
 level_there Lo = refl
 
-level_back : (s : List ℕ) (v : Level) → level_in s ≡ some v → s ≡ level_text v
+level_back : (s : List ℕ) (v : Level) → level_in s ≡ Some v → s ≡ level_text v
 unfolding level_in
 level_back s v e = pick (same_bytes s (bytes "HI")) (same_bytes s (bytes "LO")) (same_bytes_lem s (bytes "HI")) (same_bytes_lem s (bytes "LO")) e
   where
-    pick : (x y : Bool) → (x ≡ true → s ≡ bytes "HI") → (y ≡ true → s ≡ bytes "LO") → (if x then some Hi else if y then some Lo else none) ≡ some v → s ≡ level_text v
+    pick : (x y : Bool) → (x ≡ true → s ≡ bytes "HI") → (y ≡ true → s ≡ bytes "LO") → (if x then Some Hi else if y then Some Lo else None) ≡ Some v → s ≡ level_text v
     pick true y f g e = let p : Hi ≡ v = cc in f refl ∙ ap level_text p
     pick false true f g e = let p : Lo ≡ v = cc in g refl ∙ ap level_text p
     pick false false f g e = nothing e

@@ -1,23 +1,24 @@
--- Laws for the writer's code: the numbers checked job by job and slot by slot, and one check after another.
-use Rattle.std.specs.Prelude.{ℕ, suc, ◌+◌, ◌*◌, ◌/◌, ◌≤◌, ◌<◌, ◌≡◌, Bool, true, take, drop, get_or, Result, Err}
-use Rattle.std.proofs.Common.{add-one, zero-add, arith, ◌∙◌, length-append, drop_of_length-le, length-take-le}
-use Rattle.std.proofs.Math.Numerals.{add-two, add-three}
+-- Laws for the writer's code: the numbers checked line by line, the lengths, the lines put one after the other, and one check after another.
+use Rattle.std.specs.Prelude.{ℕ, suc, ◌+◌, ◌*◌, ◌/◌, ◌≤◌, ◌<◌, ◌≡◌, Bool, true, take, drop, get_or, Ok, Err}
+use Rattle.std.proofs.Common.{add-one, zero-add, arith, ◌∙◌, length-append, drop_of_length-le, drop-cons, take-suc}
+use Rattle.std.proofs.lemmas.List.{take_all, take-append-drop, length-take}
+use Rattle.std.proofs.Math.Numerals.{add-two, add-three, add-four}
 use Rattle.std.proofs.Math.Decide.{dec_lt}
 use Rattle.std.proofs.Math.Path.{refl, sym, ap}
 use Rattle.std.proofs.Math.Bool.{false}
-use mathlib.Core.List.{List, [], ◌∷◌, ◌++◌, flat_map}
+use mathlib.Core.List.{List, [], ◌∷◌, ◌++◌, flat_map, append_assoc, append-nil}
+use Rattle.std.specs.List.{sum_by}
+use Rattle.std.proofs.lemmas.List.Sums.{sum_by-cons}
 use Rattle.std.proofs.Math.ListN.{length}
 use borrow.Author.Tests.{le-leb, lt-leb}
 use Rattle.words.specs.Words.{◌≤?◌}
-use Rattle.words.specs.ListLaws.{taken_from}
 use Rattle.answers.specs.declared.Refusal.{Refusal}
-use Rattle.answers.specs.Answer.{Answer, Accepted, Form, NoRoom, accepted, ◌unless◌, ◌and_then◌, first_refusal}
-use Rattle.answers.specs.AnswerLaws.{first_on, first_found}
+use Rattle.answers.specs.Answer.{Answer, Accepted, Form, accepted, ◌unless◌, ◌and_then◌, first_refusal}
 use Rattle.plan.specs.declared.Level.{Level}
 use Rattle.plan.specs.declared.Level.TheVariants.{Lo, Hi}
 use Rattle.plan.specs.declared.Job.{Job}
 use Rattle.plan.specs.declared.Plan.{Plan}
-use Rattle.plan.specs.Limits.{max_slots, max_jobs, max_number}
+use Rattle.plan.specs.Limits.{max_number}
 use Rattle.plan.specs.Plan.{jobs_of, slots_of}
 use Rattle.plan.specs.Rules.{check2, check3}
 use Rattle.lines.specs.Lines.{bytes, line, number_line, digits}
@@ -25,38 +26,20 @@ use Rattle.lines.specs.NumberLaws.{digits_one, digits_few}
 use Rattle.lines.specs.Writing.{put_fit, place_after}
 use Rattle.lines.specs.WritingLaws.{digits_shorter, line_length_lem, first_room, then_room, fit_then, after_fits, put_fits, put_start}
 use Rattle.plan_text.specs.Read.{level_text, job_text, plan_text}
-use Rattle.plan_text.specs.Write.{Written, numbers_on, numbers_fit, write_answer, write_out}
+use Rattle.plan_text.specs.Write.{Written, numbers_on, numbers_fit, write_answer}
 use Rattle.plan_text.specs.Parts.{numbers_in, four_digits}
-use Rattle.plan_text.specs.RoundLaws.{one_to_lem, limit_slots, limit_jobs}
-use Rattle.plan_text.specs.WriteLaws.{all_small}
 
 -- ---- the checks in the order of the code
 
--- the first number above 9999 of a job: each line in turn
-module _ (line : ℕ) (j : Job) where
-  pub release_high : 9999 < j.release → Form (line + 1) ≡ first_refusal four_digits line (numbers_in j)
-  unfolding first_refusal accepted
-  release_high h = rw (lt-leb j.release 9999 h, add-one)
-
-  module _ (r : j.release ≤ 9999) where
-    pub deadline_high : 9999 < j.deadline → Form (line + 2) ≡ first_refusal four_digits line (numbers_in j)
-    unfolding first_refusal accepted
-    deadline_high h = rw (le-leb j.release 9999 r, lt-leb j.deadline 9999 h, add-two)
-
-    module _ (d : j.deadline ≤ 9999) where
-      pub lo_high : 9999 < j.lo → Form (line + 3) ≡ first_refusal four_digits line (numbers_in j)
-      unfolding first_refusal accepted
-      lo_high h = rw (le-leb j.release 9999 r, le-leb j.deadline 9999 d, lt-leb j.lo 9999 h, add-three)
-
-      module _ (l : j.lo ≤ 9999) where
-        pub hi_high : 9999 < j.hi → Form (line + 4) ≡ first_refusal four_digits line (numbers_in j)
-        unfolding first_refusal accepted
-        hi_high h =
-            rw (le-leb j.release 9999 r, le-leb j.deadline 9999 d, le-leb j.lo 9999 l, lt-leb j.hi 9999 h)
-            (ap Form (omega arith))
-
-        pub none_high : j.hi ≤ 9999 → Accepted ≡ first_refusal four_digits line (numbers_in j)
-        none_high h = sym (all_small line (numbers_in j) (omega arith, (r, (d, (l, (h, tt))))))
+-- the numbers of a job: each line in turn
+pub job_in_turn : (k : ℕ) (j : Job) → first_refusal four_digits k (numbers_in j)
+    ≡ (four_digits (k + 1) j.release and_then four_digits (k + 2) j.deadline and_then four_digits (k + 3) j.lo and_then four_digits (k + 4) j.hi)
+unfolding first_refusal accepted
+job_in_turn k j = rw (add-one, add-two, add-three, add-four) (ap (λ (a : Answer). four_digits (suc k) j.release and_then four_digits (suc (suc k)) j.deadline and_then four_digits (suc (suc (suc k))) j.lo and_then a) (last (four_digits (suc (suc (suc (suc k)))) j.hi)))
+  where
+    last : (a : Answer) → (a and_then Accepted) ≡ a
+    last (Ok u) = refl
+    last (Err e) = refl
 
 -- the first refusal along one list and then another
 first_append : (k : ℕ) (xs ys : List ℕ) → first_refusal four_digits k (xs ++ ys) ≡ (first_refusal four_digits k xs and_then first_refusal four_digits (k + length xs) ys)
@@ -71,48 +54,70 @@ first_append k (x ∷ xs) ys =
     step true ih = ih
     step false ih = refl
 
-module _ (xs : List Job) (z : Job) (n : ℕ) (le : n ≤ length xs) where
-  -- the jobs from i on: job i and then the others
-  pub jobs_from : (i k : ℕ) → i < n
-      → first_refusal four_digits k (flat_map numbers_in (drop i (take n xs)))
-      ≡ (first_refusal four_digits k (numbers_in (get_or xs i z)) and_then first_refusal four_digits (k + 5) (flat_map numbers_in (drop (i + 1) (take n xs))))
-  unfolding flat_map
-  jobs_from i k h = rw (add-one i, taken_from xs n i z le h) (first_append k (numbers_in (get_or xs i z)) (flat_map numbers_in (drop (suc i) (take n xs))))
-
-  pub jobs_end : (i k : ℕ) → n ≤ i → Accepted ≡ first_refusal four_digits k (flat_map numbers_in (drop i (take n xs)))
-  unfolding flat_map first_refusal
-  jobs_end i k h = let l : length (take n xs) ≤ i = rw (length-take-le n xs le) h in rw (drop_of_length-le (take n xs) l)
-
 -- each job has five lines
 five : (js : List Job) → length (flat_map numbers_in js) ≡ 5 * length js
 unfolding flat_map
 five [] = refl
 five (j ∷ js) = omega (arith, length-append (numbers_in j) (flat_map numbers_in js), five js)
 
--- two numbers that fit in front
-two : (m n : ℕ) (ns : List ℕ) → m ≤ 9999 → n ≤ 9999 → first_refusal four_digits 1 (m ∷ n ∷ ns) ≡ first_refusal four_digits 3 ns
-unfolding first_refusal accepted
-two m n ns h k = rw (le-leb m 9999 h, le-leb n 9999 k)
+module _ (p : Plan) where
+  -- the numbers of slots and of jobs, on the first two lines
+  pub slots_stop : (r : Refusal) → four_digits 1 p.slots ≡ Err r → Err r ≡ numbers_fit p
+  unfolding numbers_fit numbers_on first_refusal accepted
+  slots_stop r f = sym (rw f)
 
--- the numbers of a plan within its limits: its jobs' from line 3 on, then its slots'
-pub numbers_parts : (p : Plan) → p.slots ≤ max_slots → p.jobs ≤ max_jobs → p.jobs ≤ length p.job
-    → numbers_fit p ≡ (first_refusal four_digits 3 (flat_map numbers_in (jobs_of p)) and_then first_refusal four_digits (3 + 5 * p.jobs) (slots_of p))
-unfolding numbers_fit numbers_on
-numbers_parts p hs hj l =
-    let n : 3 + length (flat_map numbers_in (jobs_of p)) ≡ 3 + 5 * p.jobs = omega (arith, five (jobs_of p), length-take-le p.jobs p.job l) in
-    two p.slots p.jobs (flat_map numbers_in (jobs_of p) ++ slots_of p) (omega arith) (omega arith)
-    ∙ first_append 3 (flat_map numbers_in (jobs_of p)) (slots_of p)
-    ∙ ap (λ (k : ℕ). first_refusal four_digits 3 (flat_map numbers_in (jobs_of p)) and_then first_refusal four_digits k (slots_of p)) n
+  module _ (one : four_digits 1 p.slots ≡ Accepted) where
+    pub jobs_stop : (r : Refusal) → four_digits 2 p.jobs ≡ Err r → Err r ≡ numbers_fit p
+    unfolding numbers_fit numbers_on first_refusal accepted
+    jobs_stop r f = sym (rw (one, f))
 
--- the slots from i on
-module _ (xs : List ℕ) (n i k : ℕ) (le : n ≤ length xs) (h : i < n) where
-  pub slot_high : 9999 < get_or xs i 0 → Form k ≡ first_refusal four_digits k (drop i (take n xs))
+    -- the others: the jobs' from line 3 on, then the slots'
+    pub numbers_parts : four_digits 2 p.jobs ≡ Accepted
+        → numbers_fit p ≡ (first_refusal four_digits 3 (flat_map numbers_in (jobs_of p)) and_then first_refusal four_digits (3 + 5 * length (jobs_of p)) (slots_of p))
+    unfolding numbers_fit numbers_on first_refusal accepted
+    numbers_parts two =
+        let n : 3 + length (flat_map numbers_in (jobs_of p)) ≡ 3 + 5 * length (jobs_of p) = omega (arith, five (jobs_of p)) in
+        rw (one, two) (first_append 3 (flat_map numbers_in (jobs_of p)) (slots_of p)
+        ∙ ap (λ (k : ℕ). first_refusal four_digits 3 (flat_map numbers_in (jobs_of p)) and_then first_refusal four_digits k (slots_of p)) n)
+
+-- the jobs from i on, with the rest of the answer: job i and then the others
+module _ (w rest : Answer) (js : List Job) (z : Job) (i k : ℕ) (h : i < length js) (e : w ≡ (first_refusal four_digits k (flat_map numbers_in (drop i js)) and_then rest)) where
+  job_first : first_refusal four_digits k (flat_map numbers_in (drop i js))
+      ≡ (first_refusal four_digits k (numbers_in (get_or js i z)) and_then first_refusal four_digits (k + 5) (flat_map numbers_in (drop (i + 1) js)))
+  unfolding flat_map
+  job_first = rw (add-one i, drop-cons js i z h) (first_append k (numbers_in (get_or js i z)) (flat_map numbers_in (drop (suc i) js)))
+
+  pub job_stops : (r : Refusal) → first_refusal four_digits k (numbers_in (get_or js i z)) ≡ Err r → Err r ≡ w
   unfolding accepted
-  slot_high p = let q : (get_or xs i 0 ≤? max_number) ≡ false = lt-leb (get_or xs i 0) 9999 p in sym (rw q) ∙ first_found four_digits xs n i k 0 le h (rw q)
+  job_stops r f = sym (e ∙ rw (job_first, f))
 
-  pub slot_fits : get_or xs i 0 ≤ 9999 → first_refusal four_digits (k + 1) (drop (i + 1) (take n xs)) ≡ first_refusal four_digits k (drop i (take n xs))
+  pub job_goes_on : first_refusal four_digits k (numbers_in (get_or js i z)) ≡ Accepted → w ≡ (first_refusal four_digits (k + 5) (flat_map numbers_in (drop (i + 1) js)) and_then rest)
   unfolding accepted
-  slot_fits p = first_on four_digits xs n i k 0 le h (rw (le-leb (get_or xs i 0) 9999 p))
+  job_goes_on f = e ∙ rw (job_first, f)
+
+-- no job is left
+pub jobs_end : (w rest : Answer) (js : List Job) (i k : ℕ) → length js ≤ i → w ≡ (first_refusal four_digits k (flat_map numbers_in (drop i js)) and_then rest) → w ≡ rest
+unfolding flat_map first_refusal accepted
+jobs_end w rest js i k h e = rw (drop_of_length-le js h) at e
+
+-- the slots from i on: slot i and then the others
+module _ (w : Answer) (xs : List ℕ) (i k : ℕ) (h : i < length xs) (e : w ≡ first_refusal four_digits k (drop i xs)) where
+  slot_first : first_refusal four_digits k (drop i xs) ≡ (four_digits k (get_or xs i 0) and_then first_refusal four_digits (k + 1) (drop (i + 1) xs))
+  unfolding first_refusal
+  slot_first = rw (add-one i, add-one k, drop-cons xs i 0 h)
+
+  pub slot_stops : (r : Refusal) → four_digits k (get_or xs i 0) ≡ Err r → Err r ≡ w
+  unfolding accepted
+  slot_stops r f = sym (e ∙ slot_first ∙ rw f)
+
+  pub slot_goes_on : four_digits k (get_or xs i 0) ≡ Accepted → w ≡ first_refusal four_digits (k + 1) (drop (i + 1) xs)
+  unfolding accepted
+  slot_goes_on f = e ∙ slot_first ∙ rw f
+
+-- no slot is left
+pub slots_end : (w : Answer) (xs : List ℕ) (i k : ℕ) → length xs ≤ i → w ≡ first_refusal four_digits k (drop i xs) → Accepted ≡ w
+unfolding first_refusal
+slots_end w xs i k h e = sym (rw (drop_of_length-le xs h) at e)
 
 -- ---- lengths
 
@@ -145,15 +150,26 @@ job_length j =
 pub slot_length : (n : ℕ) → length (number_line "slot=" n) ≡ 6 + length (digits n)
 slot_length n = omega (arith, line_length_lem (bytes "slot=") n)
 
+-- the first n of m are at most m
+pub first_few : {A : Type 0} (xs all : List A) (n m : ℕ) → xs ≡ take n all → length all ≡ m → length xs ≤ m
+first_few xs all n m e l = omega (arith, ap length e, length-take n all)
+
+-- the texts of many have their lengths' sum
+length_flat : {A : Type 0} (print : A → List ℕ) (xs : List A) → length (flat_map print xs) ≡ sum_by (λ x. length (print x)) xs
+unfolding flat_map
+length_flat print [] = refl
+length_flat print (x ∷ xs) = length-append (print x) (flat_map print xs) ∙ ap (λ (n : ℕ). length (print x) + n) (length_flat print xs) ∙ sym (sum_by-cons (λ y. length (print y)) x xs)
+
 pub text_length : (p : Plan) → length (plan_text p)
-    ≡ 13 + length (digits p.slots) + length (digits p.jobs) + length (flat_map job_text (jobs_of p)) + length (flat_map (number_line "slot=") (slots_of p))
+    ≡ 13 + length (digits p.slots) + length (digits p.jobs) + sum_by (λ j. length (job_text j)) (jobs_of p) + sum_by (λ n. length (number_line "slot=" n)) (slots_of p)
 unfolding plan_text
 text_length p =
     sum_of (number_line "slots=" p.slots) (number_line "jobs=" p.jobs) (flat_map job_text (jobs_of p)) (flat_map (number_line "slot=") (slots_of p))
-    (length (digits p.slots)) (length (digits p.jobs)) (line_length_lem (bytes "slots=") p.slots) (line_length_lem (bytes "jobs=") p.jobs)
+    (length (digits p.slots)) (length (digits p.jobs)) _ _ (line_length_lem (bytes "slots=") p.slots) (line_length_lem (bytes "jobs=") p.jobs)
+    (length_flat job_text (jobs_of p)) (length_flat (number_line "slot=") (slots_of p))
   where
-    sum_of : (a b c d : List ℕ) (m n : ℕ) → length a ≡ 6 + m + 1 → length b ≡ 5 + n + 1 → length (a ++ b ++ c ++ d) ≡ 13 + m + n + length c + length d
-    sum_of a b c d m n f g = omega (arith, length-append (a ++ b ++ c) d, length-append (a ++ b) c, length-append a b)
+    sum_of : (a b c d : List ℕ) (m n k l : ℕ) → length a ≡ 6 + m + 1 → length b ≡ 5 + n + 1 → length c ≡ k → length d ≡ l → length (a ++ b ++ c ++ d) ≡ 13 + m + n + k + l
+    sum_of a b c d m n k l e f g h = omega (arith, length-append (a ++ b ++ c) d, length-append (a ++ b) c, length-append a b)
 
 -- ---- pieces one after the other, with room for all
 
@@ -186,89 +202,102 @@ job_pieces at j out room p₁ p₂ p₃ p₄ p₅ o₁ o₂ o₃ o₄ o₅ e₁ 
     let x = four_pieces at A B C D out (first_room at (A ++ B ++ C ++ D) E out room) p₁ p₂ p₃ p₄ o₁ o₂ o₃ o₄ e₁ f₁ e₂ f₂ e₃ f₃ e₄ f₄ in
     fit_then at (A ++ B ++ C ++ D) E out room p₄ p₅ o₄ o₅ x.0 x.1 e₅ f₅
 
--- the four parts of a plan's text; k and m are how many jobs and slots the code counts
-module _ (p : Plan) (out : List ℕ) (room : length (plan_text p) ≤ length out) (k m : ℕ) (ek : k ≡ p.jobs) (em : m ≡ p.slots) where
-  abbrev A : List ℕ
-  A = number_line "slots=" p.slots
+-- the lines of many things, one after the other behind a text that is already there
+module _ {A : Type 0} (print : A → List ℕ) where
+  flat_append : (xs ys : List A) → flat_map print (xs ++ ys) ≡ flat_map print xs ++ flat_map print ys
+  unfolding flat_map
+  flat_append [] ys = refl
+  flat_append (x ∷ xs) ys = ap (λ (r : List ℕ). print x ++ r) (flat_append xs ys) ∙ sym (append_assoc (print x) (flat_map print xs) (flat_map print ys))
 
-  abbrev B : List ℕ
-  B = number_line "jobs=" p.jobs
+  module _ (xs : List A) (head out₀ : List ℕ) where
+    -- the text so far
+    abbrev first : ℕ → List ℕ
+    first i = head ++ flat_map print (take i xs)
 
-  abbrev C : List ℕ
-  C = flat_map job_text (take k p.job)
+    pub many_none : (p : ℕ) (out : List ℕ) → p ≡ place_after 0 head out₀ → out ≡ put_fit 0 head out₀ → (p ≡ place_after 0 (first 0) out₀) × (out ≡ put_fit 0 (first 0) out₀)
+    unfolding flat_map
+    many_none p out e f = rw (append-nil head) (e, f)
 
-  abbrev D : List ℕ
-  D = flat_map (number_line "slot=") (take m p.table)
+    pub many_all : (p i : ℕ) (out : List ℕ) → length xs ≤ i → p ≡ place_after 0 (first i) out₀ → out ≡ put_fit 0 (first i) out₀
+        → (p ≡ place_after 0 (head ++ flat_map print xs) out₀) × (out ≡ put_fit 0 (head ++ flat_map print xs) out₀)
+    many_all p i out h e f = (rw (take_all i xs h) at e, rw (take_all i xs h) at f)
 
-  text_parts : plan_text p ≡ A ++ B ++ C ++ D
-  unfolding plan_text
-  text_parts = rw (ek, em)
+    module _ (z : A) (room : length (head ++ flat_map print xs) ≤ length out₀) (p i : ℕ) (out : List ℕ) (h : i < length xs) (e : p ≡ place_after 0 (first i) out₀) (f : out ≡ put_fit 0 (first i) out₀) where
+      abbrev next : List ℕ
+      next = print (get_or xs i z)
 
-  whole_room : 0 + length (A ++ B ++ C ++ D) ≤ length out
-  whole_room = omega (arith, ap length text_parts)
+      first_more : first (i + 1) ≡ first i ++ next
+      unfolding flat_map
+      first_more =
+          ap (λ (k : ℕ). first k) (add-one i) ∙ ap (λ (ys : List A). head ++ flat_map print ys) (take-suc xs i z h) ∙ ap (λ (r : List ℕ). head ++ r) (flat_append (take i xs) (get_or xs i z ∷ []))
+          ∙ ap (λ (r : List ℕ). head ++ (flat_map print (take i xs) ++ r)) (append-nil next) ∙ sym (append_assoc head (flat_map print (take i xs)) next)
 
-  module _ (p₁ p₂ : ℕ) (o₁ o₂ : List ℕ) (e₁ : p₁ ≡ place_after 0 A out) (f₁ : o₁ ≡ put_fit 0 A out) (e₂ : p₂ ≡ place_after p₁ B o₁) (f₂ : o₂ ≡ put_fit p₁ B o₁) where
-    heads : (p₂ ≡ place_after 0 (A ++ B) out) × (o₂ ≡ put_fit 0 (A ++ B) out)
-    heads = fit_then 0 A B out (first_room 0 (A ++ B) C out (first_room 0 (A ++ B ++ C) D out whole_room)) p₁ p₂ o₁ o₂ e₁ f₁ e₂ f₂
+      next_fits : 0 + length (first i ++ next) ≤ length out₀
+      next_fits =
+          let q = ap length (ap (λ (ys : List A). flat_map print ys) (sym (take-append-drop (i + 1) xs)) ∙ flat_append (take (i + 1) xs) (drop (i + 1) xs)) in
+          omega (arith, q, ap length first_more, length-append {A = ℕ})
 
-    pub jobs_room : p₂ + length C ≤ length o₂
-    jobs_room = then_room 0 (A ++ B) C out (first_room 0 (A ++ B ++ C) D out whole_room) p₂ o₂ heads.0 heads.1
+      -- the next has room
+      pub many_room : p + length next ≤ length out
+      many_room = then_room 0 (first i) next out₀ next_fits p out e f
 
-    module _ (p₃ : ℕ) (o₃ : List ℕ) (e₃ : p₃ ≡ place_after p₂ C o₂) (f₃ : o₃ ≡ put_fit p₂ C o₂) where
-      pub slots_room : p₃ + length D ≤ length o₃
-      slots_room =
-          let x = fit_then 0 (A ++ B) C out (first_room 0 (A ++ B ++ C) D out whole_room) p₂ p₃ o₂ o₃ heads.0 heads.1 e₃ f₃ in
-          then_room 0 (A ++ B ++ C) D out whole_room p₃ o₃ x.0 x.1
+      pub many_more : (r : ℕ) (out' : List ℕ) → r ≡ place_after p next out → out' ≡ put_fit p next out → (r ≡ place_after 0 (first (i + 1)) out₀) × (out' ≡ put_fit 0 (first (i + 1)) out₀)
+      many_more r out' er ef = rw first_more (fit_then 0 (first i) next out₀ next_fits p r out out' e f er ef)
 
-      pub plan_pieces : (p₄ : ℕ) (o₄ : List ℕ) → p₄ ≡ place_after p₃ D o₃ → o₄ ≡ put_fit p₃ D o₃ → (p₄ ≡ length (plan_text p)) × (o₄ ≡ plan_text p ++ drop (length (plan_text p)) out)
-      plan_pieces p₄ o₄ e₄ f₄ =
-          let x = four_pieces 0 A B C D out whole_room p₁ p₂ p₃ p₄ o₁ o₂ o₃ o₄ e₁ f₁ e₂ f₂ e₃ f₃ e₄ f₄ in (
-            x.0 ∙ after_fits 0 (A ++ B ++ C ++ D) out whole_room ∙ zero-add (length (A ++ B ++ C ++ D)) ∙ ap length (sym text_parts),
-            x.1 ∙ put_fits 0 (A ++ B ++ C ++ D) out whole_room ∙ put_start (A ++ B ++ C ++ D) out ∙ ap (λ (t : List ℕ). t ++ drop (length t) out) (sym text_parts),
-          )
+-- the text of a plan: its two first lines, its jobs and its slots
+unfoldable pub heads : Plan → List ℕ
+heads p = number_line "slots=" p.slots ++ number_line "jobs=" p.jobs
+
+module _ (p : Plan) (out : List ℕ) (room : length (plan_text p) ≤ length out) where
+  pub slots_room : length (heads p ++ flat_map job_text (jobs_of p) ++ flat_map (number_line "slot=") (slots_of p)) ≤ length out
+  unfolding plan_text heads
+  slots_room = room
+
+  pub jobs_room : length (heads p ++ flat_map job_text (jobs_of p)) ≤ length out
+  jobs_room = omega (arith, slots_room, length-append (heads p ++ flat_map job_text (jobs_of p)) (flat_map (number_line "slot=") (slots_of p)))
+
+  pub heads_written : (p₁ p₂ : ℕ) (o₁ o₂ : List ℕ) → p₁ ≡ place_after 0 (number_line "slots=" p.slots) out → o₁ ≡ put_fit 0 (number_line "slots=" p.slots) out
+      → p₂ ≡ place_after p₁ (number_line "jobs=" p.jobs) o₁ → o₂ ≡ put_fit p₁ (number_line "jobs=" p.jobs) o₁ → (p₂ ≡ place_after 0 (heads p) out) × (o₂ ≡ put_fit 0 (heads p) out)
+  unfolding heads
+  heads_written p₁ p₂ o₁ o₂ e₁ f₁ e₂ f₂ =
+      let A : List ℕ = number_line "slots=" p.slots in
+      let B : List ℕ = number_line "jobs=" p.jobs in
+      fit_then 0 A B out (omega (arith, jobs_room, length-append (A ++ B) (flat_map job_text (jobs_of p)))) p₁ p₂ o₁ o₂ e₁ f₁ e₂ f₂
+
+  -- the whole text is written
+  pub plan_written : (n : ℕ) (out' : List ℕ) → n ≡ place_after 0 (heads p ++ flat_map job_text (jobs_of p) ++ flat_map (number_line "slot=") (slots_of p)) out
+      → out' ≡ put_fit 0 (heads p ++ flat_map job_text (jobs_of p) ++ flat_map (number_line "slot=") (slots_of p)) out
+      → (n ≡ length (plan_text p)) × (out' ≡ plan_text p ++ drop (length (plan_text p)) out)
+  unfolding plan_text heads
+  plan_written n out' e f =
+      let w : 0 + length (plan_text p) ≤ length out = omega arith in (
+        e ∙ after_fits 0 (plan_text p) out w ∙ zero-add (length (plan_text p)),
+        f ∙ put_fits 0 (plan_text p) out w ∙ put_start (plan_text p) out,
+      )
 
 -- ---- the writer's ways out
 
--- past checks 2 and 3 the limits hold
-pub slots_within : (p : Plan) → accepted (check2 p) ≡ true → p.slots ≤ max_slots
-unfolding check2
-slots_within p h = (one_to_lem max_slots p.slots (limit_slots _ h)).1
-
-pub jobs_within : (p : Plan) → accepted (check3 p) ≡ true → p.jobs ≤ max_jobs
-unfolding check3
-jobs_within p h = (one_to_lem max_jobs p.jobs (limit_jobs _ h)).1
-
-module _ (p : Plan) (out : List ℕ) where
-  -- the answer and the output are those of the definitions
-  abbrev Ends : Result ℕ Refusal → List ℕ → Type 0
-  Ends r o = (r ≡ write_answer p (length out)) × (o ≡ write_out p out)
-
-  -- a refusal leaves the output as it was
-  refused_ends : (e : Refusal) → write_answer p (length out) ≡ Err e → Ends (Err e) out
-  unfolding write_out accepted
-  refused_ends e w = (sym w, rw w)
-
-  pub ends_2 : (e : Refusal) → check2 p ≡ Err e → Ends (Err e) out
+-- the answer at each way out
+module _ (p : Plan) (room : ℕ) where
+  pub ends_2 : (e : Refusal) → check2 p ≡ Err e → write_answer p room ≡ Err e
   unfolding write_answer accepted
-  ends_2 e f = refused_ends e (rw f)
+  ends_2 e f = rw f
 
   module _ (ok2 : check2 p ≡ Accepted) where
-    pub ends_3 : (e : Refusal) → check3 p ≡ Err e → Ends (Err e) out
+    pub ends_3 : (e : Refusal) → check3 p ≡ Err e → write_answer p room ≡ Err e
     unfolding write_answer accepted
-    ends_3 e f = refused_ends e (rw (ok2, f))
+    ends_3 e f = rw (ok2, f)
 
     module _ (ok3 : check3 p ≡ Accepted) where
-      pub ends_1 : (e : Refusal) → numbers_fit p ≡ Err e → Ends (Err e) out
+      pub ends_1 : (e : Refusal) → numbers_fit p ≡ Err e → write_answer p room ≡ Err e
       unfolding write_answer accepted
-      ends_1 e f = refused_ends e (rw (ok2, ok3, f))
+      ends_1 e f = rw (ok2, ok3, f)
 
       module _ (ok1 : numbers_fit p ≡ Accepted) where
-        pub ends_14 : (len : ℕ) → len ≡ length (plan_text p) → length out < len → Ends (Err (Refusal.NoRoom len)) out
+        pub ends_14 : room < length (plan_text p) → write_answer p room ≡ Err (Refusal.NoRoom (length (plan_text p)))
         unfolding write_answer accepted
-        ends_14 len e h = refused_ends (Refusal.NoRoom len) (rw (ok2, ok3, ok1, lt-leb (length (plan_text p)) (length out) (omega arith)) (ap (λ (n : ℕ). Err (Refusal.NoRoom n)) (sym e)))
+        ends_14 h = rw (ok2, ok3, ok1, lt-leb (length (plan_text p)) room h)
 
-        pub ends_written : (r : ℕ) (o : List ℕ) → length (plan_text p) ≤ length out → r ≡ length (plan_text p) → o ≡ plan_text p ++ drop (length (plan_text p)) out → Ends (Written r) o
-        unfolding write_answer write_out accepted
-        ends_written r o h e f =
-            let w : write_answer p (length out) ≡ Written (length (plan_text p)) = rw (ok2, ok3, ok1, le-leb (length (plan_text p)) (length out) h) in
-            (ap Written e ∙ sym w, f ∙ rw w)
+        pub ends_written : length (plan_text p) ≤ room → write_answer p room ≡ Written (length (plan_text p))
+        unfolding write_answer accepted
+        ends_written h = rw (ok2, ok3, ok1, le-leb (length (plan_text p)) room h)

@@ -1,40 +1,21 @@
 // The plan text read: its lines in their fixed order, judged line by line. Windows, budgets and the table are judged in acceptance.
-ghost use Rattle.std.specs.Prelude.{◌≡◌, ◌+◌, ◌*◌, ◌≤◌, length, replicate};
+ghost use Rattle.std.specs.Prelude.{◌≡◌, ◌+◌, ◌*◌, ◌≤◌, ◌<◌, length};
 ghost use Rattle.plan.specs.Limits.{max_slots, max_jobs};
-ghost use Rattle.lines.specs.Lines.{bytes};
-ghost use Rattle.lines.specs.Reading.{number_at, standing};
-ghost use Rattle.plan_text.specs.Read.{level_in, next_plan, read_plan};
-ghost use Rattle.plan_text.specs.Reader.{level_read, level_at, JobHere, JobsHere, SlotsHere, next_lines, last_line, numbered, refused_parts, PartsHere, refused_prefix, refused_read, plan_from, plan_prefix};
+ghost use Rattle.plan.specs.Plan.{blank_job};
+ghost use Rattle.lines.specs.Lines.{bytes, number, field};
+ghost use Rattle.lines.specs.Reading.{field_at, line_with};
+ghost use Rattle.plan_text.specs.Read.{level_in, next_job, next_plan, read_plan};
+ghost use Rattle.plan_text.specs.Reader.{Taken, Reads, many_filled, plan_lines, last_line, plan_told, prefix_told, plan_from, plan_prefix};
 
 use super::PlanRead;
 use answers::{Answer, Refusal};
-use lines::reading::{NumberAt, ValueAt};
-use plan::{Job, Level, Plan};
+use line_reader::number_field;
+use plan::{JOBS, Job, Level, Plan, SLOTS};
 
 // The lines of the largest plan, and the last line that has a number.
-const PLAN_LINES: usize = 2 + 5 * plan::JOBS + plan::SLOTS;
+const PLAN_LINES: usize = 2 + 5 * JOBS + SLOTS;
 
 const LAST_LINE: usize = 65535;
-
-#[derive(Clone, Copy)]
-enum LevelName {
-    Is(Level),
-    Not,
-}
-
-// The level on a line, and the first byte of the next line.
-#[derive(Clone, Copy)]
-enum LevelAt {
-    Got(Level, usize),
-    Bad,
-}
-
-// The job of five lines and the first byte of the line after them, or the line that is not of the form.
-#[derive(Clone, Copy)]
-enum JobAt {
-    Got(Job, usize),
-    Bad(u16),
-}
 
 // The plan that was read, the first byte after its last line and the number of the line there;
 // or a refusal beside the blank plan, place 0 and line 0.
@@ -46,327 +27,163 @@ pub struct PlanPrefix {
     pub line: u16,
 }
 
-// The jobs and the first byte after their lines; beside a refusal the array is not used.
-#[derive(Clone, Copy)]
-struct JobsRead {
-    answer: Answer,
-    job: [Job; plan::JOBS],
-    next: usize,
-}
-
-// What the lines of the slots say, and the first byte after them; the slots stand in the table that was lent.
-#[derive(Clone, Copy)]
-struct SlotsRead {
-    answer: Answer,
-    next: usize,
-}
-
-// What the lines of a plan say but for the slots, the first byte after the last line and the number of the line there.
-// Beside a refusal only the answer is used.
-#[derive(Clone, Copy)]
-struct Parts {
-    answer: Answer,
-    slots: u16,
-    jobs: u16,
-    job: [Job; plan::JOBS],
-    next: usize,
+// The lines of a text from a place on, with the number of the line there.
+#[derive(Drop)]
+struct Lines<'a> {
+    text: &'a [u8],
+    at: usize,
     line: u16,
 }
 
-#[tactic(auto, using(crate::specs::ReaderLaws::level_hi, crate::specs::ReaderLaws::level_lo, crate::specs::ReaderLaws::level_not))]
-fn level_in(s: &[u8]) -> LevelName
-    ensures { result ≡ level_read (level_in s.now) }
+#[tactic(auto, unfolding(crate::specs::Read::level_in))]
+fn level_in(s: &[u8]) -> Option<Level>
+    ensures { result ≡ level_in s.now }
 {
     if lines::reading::same_bytes(s, b"HI") {
-        return LevelName::Is(Level::Hi);
+        return Some(Level::Hi);
     }
     if lines::reading::same_bytes(s, b"LO") {
-        return LevelName::Is(Level::Lo);
+        return Some(Level::Lo);
     }
-    LevelName::Not
+    None
 }
 
-#[tactic(auto, using(crate::specs::ReaderLaws::level_there, crate::specs::ReaderLaws::level_refused))]
-fn level_field(text: &[u8], at: usize) -> LevelAt
-    ensures { result ≡ level_at text.now at }
+// The level on the line at `at`, and the first byte of the next line.
+#[tactic(auto, using(lines::specs::ReadingLaws::field_steps))]
+fn level_field(text: &[u8], at: usize) -> Option<(Level, usize)>
+    ensures { result ≡ field_at level_in text.now at (bytes "level=") }
 {
-    match line_reader::find_value(text, at, b"level=") {
-        ValueAt::At { start, len, next } => match level_in(line_reader::part_from(
-            text, start, len,
-        )) {
-            LevelName::Is(level) => LevelAt::Got(level, next),
-            LevelName::Not => LevelAt::Bad,
-        },
-        ValueAt::Refused => LevelAt::Bad,
+    let value = line_reader::find_value(text, at, b"level=")?;
+    let level = level_in(line_reader::part_from(text, value.start, value.len))?;
+    Some((level, value.next))
+}
+
+impl Lines<'_> {
+    // What was found on the line, and the lines after it; nothing was found: 1 at this line.
+    fn taken<T>(&mut self, found: Option<(T, usize)>) -> Result<T, Refusal>
+        requires { self.old.line < last_line }
+        ensures { Taken self.old found result self.new }
+    {
+        let (value, next) = found.ok_or(Refusal::Form(self.line))?;
+        self.at = next;
+        self.line += 1;
+        Ok(value)
     }
-}
 
-fn release_field(text: &[u8], at: usize) -> NumberAt
-    ensures { result ≡ number_at text.now at (bytes "release=") }
-{
-    line_reader::number_field(text, at, b"release=")
-}
+    // The number on the line.
+    #[tactic(auto, using(crate::specs::ReaderLaws::taken_reads))]
+    fn number(&mut self, key: &[u8]) -> Result<u16, Refusal>
+        requires { self.old.line < last_line }
+        ensures { Reads (line_with number key.now) 1 self.old result self.new }
+    {
+        self.taken(number_field(self.text, self.at, key))
+    }
 
-fn deadline_field(text: &[u8], at: usize) -> NumberAt
-    ensures { result ≡ number_at text.now at (bytes "deadline=") }
-{
-    line_reader::number_field(text, at, b"deadline=")
-}
+    // The level on the line.
+    #[tactic(auto, using(crate::specs::ReaderLaws::taken_reads), unfolding(lines::specs::Lines::field))]
+    fn level(&mut self) -> Result<Level, Refusal>
+        requires { self.old.line < last_line }
+        ensures { Reads (field level_in "level=") 1 self.old result self.new }
+    {
+        self.taken(level_field(self.text, self.at))
+    }
 
-fn lo_field(text: &[u8], at: usize) -> NumberAt
-    ensures { result ≡ number_at text.now at (bytes "lo=") }
-{
-    line_reader::number_field(text, at, b"lo=")
-}
+    // The five lines of a job.
+    fn job(&mut self) -> Result<Job, Refusal>
+        requires { self.old.line + 5 ≤ last_line }
+        ensures { Reads next_job 5 self.old result self.new }
+    {
+        let level = self.level()?;
+        let release = self.number(b"release=")?;
+        let deadline = self.number(b"deadline=")?;
+        let lo = self.number(b"lo=")?;
+        let hi = self.number(b"hi=")?;
+        Ok(Job {
+            level,
+            release,
+            deadline,
+            lo,
+            hi,
+        })
+    }
 
-fn hi_field(text: &[u8], at: usize) -> NumberAt
-    ensures { result ≡ number_at text.now at (bytes "hi=") }
-{
-    line_reader::number_field(text, at, b"hi=")
-}
-
-// The job whose first line is at `at` and has the number `line`.
-#[tactic(auto, using(crate::specs::ReaderLaws::job_bad_1, crate::specs::ReaderLaws::job_bad_2, crate::specs::ReaderLaws::job_bad_3, crate::specs::ReaderLaws::job_bad_4, crate::specs::ReaderLaws::job_bad_5, crate::specs::ReaderLaws::job_got))]
-fn read_job(text: &[u8], at: usize, line: u16) -> JobAt
-    requires { line + 5 ≤ last_line }
-    ensures { JobHere text.now at line result }
-{
-    let LevelAt::Got(level, a) = level_field(text, at) else {
-        return JobAt::Bad(line);
-    };
-    let NumberAt::Got(release, b) = release_field(text, a) else {
-        return JobAt::Bad(line + 1);
-    };
-    let NumberAt::Got(deadline, c) = deadline_field(text, b) else {
-        return JobAt::Bad(line + 2);
-    };
-    let NumberAt::Got(lo, d) = lo_field(text, c) else {
-        return JobAt::Bad(line + 3);
-    };
-    let NumberAt::Got(hi, next) = hi_field(text, d) else {
-        return JobAt::Bad(line + 4);
-    };
-    let job = Job {
-        level,
-        release,
-        deadline,
-        lo,
-        hi,
-    };
-    JobAt::Got(job, next)
-}
-
-// The jobs, the first of whose lines is at `at` and has the number `line`.
-#[tactic(auto, using(lines::specs::ManyLaws::filling_at_starts, lines::specs::ManyLaws::filling_at_on, lines::specs::ManyLaws::filling_at_stops, lines::specs::ManyLaws::filling_at_ends, crate::specs::ReaderLaws::form_refuses, crate::specs::ReaderLaws::job_is, crate::specs::ReaderLaws::job_is_not))]
-fn read_jobs(text: &[u8], at: usize, count: usize, line: u16) -> JobsRead
-    requires count_le_max_jobs { count ≤ max_jobs }
-    requires count_bound { line + 5 * count ≤ last_line }
-    requires at_in_bounds { at ≤ length text.now }
-    ensures { JobsHere text.now at line count result }
-{
-    let blank = plan::blank_job();
-    let mut job = [blank; plan::JOBS];
-    let mut next = at;
-    let mut l = line;
-    let mut i = 0;
-    while i < count {
-        match read_job(text, next, l) {
-            JobAt::Got(j, after) => {
-                job[i] = j;
-                next = after;
-            }
-            JobAt::Bad(bad) => {
-                return JobsRead {
-                    answer: Err(Refusal::Form(bad)),
-                    job,
-                    next: 0,
-                };
-            }
+    // The lines of so many jobs, blank jobs beyond them.
+    fn jobs(&mut self, count: usize) -> Result<[Job; JOBS], Refusal>
+        requires count_le_max_jobs { count ≤ max_jobs }
+        requires lines { self.old.line + 5 * count ≤ last_line }
+        requires within { self.old.at ≤ length self.old.text.now }
+        ensures { Reads (many_filled max_jobs blank_job count next_job) (5 * count) self.old result self.new }
+    {
+        let mut job = [plan::blank_job(); JOBS];
+        for i in 0..count {
+            job[i] = self.job()?;
         }
-        l += 5;
-        i += 1;
+        Ok(job)
     }
-    JobsRead {
-        answer: Ok(()),
-        job,
-        next,
-    }
-}
 
-fn slot_field(text: &[u8], at: usize) -> NumberAt
-    ensures { result ≡ number_at text.now at (bytes "slot=") }
-{
-    line_reader::number_field(text, at, b"slot=")
-}
-
-// The slots, the first of whose lines is at `at` and has the number `line`, into the table, which is 0 on entry.
-#[tactic(auto, using(lines::specs::ManyLaws::filling_at_starts, lines::specs::ManyLaws::filling_at_on, lines::specs::ManyLaws::filling_at_stops, lines::specs::ManyLaws::filling_at_ends, crate::specs::ReaderLaws::form_refuses, crate::specs::ReaderLaws::line_each, lines::specs::ReadingLaws::number_got, lines::specs::ReadingLaws::number_bad))]
-fn read_slots(
-    text: &[u8],
-    at: usize,
-    count: usize,
-    line: u16,
-    table: &mut [u16; plan::SLOTS],
-) -> SlotsRead
-    requires count_le_max_slots { count ≤ max_slots }
-    requires count_bound { line + count ≤ last_line }
-    requires at_in_bounds { at ≤ length text.now }
-    requires table_value { table.old ≡ replicate max_slots 0 }
-    ensures { SlotsHere text.now at line count result table.new }
-{
-    let mut next = at;
-    let mut l = line;
-    let mut t = 0;
-    while t < count {
-        let NumberAt::Got(entry, after) = slot_field(text, next) else {
-            return SlotsRead {
-                answer: Err(Refusal::Form(l)),
-                next: 0,
-            };
-        };
-        table[t] = entry;
-        next = after;
-        l += 1;
-        t += 1;
+    // The lines of so many slots, 0 beyond them.
+    fn slots(&mut self, count: usize) -> Result<[u16; SLOTS], Refusal>
+        requires count_le_max_slots { count ≤ max_slots }
+        requires lines { self.old.line + count ≤ last_line }
+        requires within { self.old.at ≤ length self.old.text.now }
+        ensures { Reads (many_filled max_slots 0 count (field number "slot=")) count self.old result self.new }
+    {
+        let mut table = [0u16; SLOTS];
+        for t in 0..count {
+            table[t] = self.number(b"slot=")?;
+        }
+        Ok(table)
     }
-    SlotsRead {
-        answer: Ok(()),
-        next,
-    }
-}
 
-fn no_parts(answer: Answer) -> Parts
-    ensures { result ≡ refused_parts answer }
-{
-    let blank = plan::blank_job();
-    let job = [blank; plan::JOBS];
-    Parts {
-        answer,
-        slots: 0,
-        jobs: 0,
-        job,
-        next: 0,
-        line: 0,
+    // The lines of a plan; those of the largest have numbers.
+    fn plan(&mut self) -> Result<Plan, Refusal>
+        requires { self.old.line + plan_lines ≤ last_line }
+        ensures { Reads next_plan plan_lines self.old result self.new }
+    {
+        let slots = self.number(b"slots=")?;
+        plan::slot_limit(slots)?;
+        let jobs = self.number(b"jobs=")?;
+        plan::job_limit(jobs)?;
+        let job = self.jobs(usize::from(jobs))?;
+        let table = self.slots(usize::from(slots))?;
+        Ok(Plan {
+            slots,
+            jobs,
+            job,
+            table,
+        })
     }
-}
 
-// The lines of the jobs and of the slots, the first of which is at `at` and has the number `line`.
-#[tactic(auto, using(crate::specs::PrefixLaws::lines_no_jobs, crate::specs::PrefixLaws::lines_read))]
-fn read_lines(
-    text: &[u8],
-    at: usize,
-    line: u16,
-    slots: u16,
-    jobs: u16,
-    table: &mut [u16; plan::SLOTS],
-) -> Parts
-    requires slots_le_max_slots { slots ≤ max_slots }
-    requires jobs_le_max_jobs { jobs ≤ max_jobs }
-    requires max_slots_bound { line + 5 * max_jobs + max_slots ≤ last_line }
-    requires at_in_bounds { at ≤ length text.now }
-    requires table_value { table.old ≡ replicate max_slots 0 }
-    ensures { PartsHere text.now result table.new (next_lines slots jobs (standing text.now at line)) }
-{
-    let j = read_jobs(text, at, jobs as usize, line);
-    let job = j.job;
-    let answer = j.answer;
-    if answer.is_err() {
-        return no_parts(answer);
+    // The plan from any line on: where the lines of the largest would pass the last number it is refused at its first.
+    fn numbered_plan(&mut self) -> Result<Plan, Refusal>
+        ensures { prefix_told result self.new ≡ plan_from self.old.text.now self.old.at self.old.line }
+    {
+        if LAST_LINE < usize::from(self.line) + PLAN_LINES {
+            return Err(Refusal::Form(self.line));
+        }
+        self.plan()
     }
-    let first = line + 5 * jobs;
-    let s = read_slots(text, j.next, slots as usize, first, table);
-    let answer = s.answer;
-    Parts {
-        answer,
-        slots,
-        jobs,
-        job,
-        next: s.next,
-        line: first + slots,
-    }
-}
-
-fn slots_field(text: &[u8], at: usize) -> NumberAt
-    ensures { result ≡ number_at text.now at (bytes "slots=") }
-{
-    line_reader::number_field(text, at, b"slots=")
-}
-
-fn jobs_field(text: &[u8], at: usize) -> NumberAt
-    ensures { result ≡ number_at text.now at (bytes "jobs=") }
-{
-    line_reader::number_field(text, at, b"jobs=")
-}
-
-// The lines of a plan, the first of which is at `at` and has the number `line`; the slots go into the table, which is 0 on entry.
-#[tactic(auto, using(crate::specs::PrefixLaws::no_line_one, crate::specs::PrefixLaws::over_slot_limit, crate::specs::PrefixLaws::line_one, crate::specs::PrefixLaws::slots_few, crate::specs::PrefixLaws::no_line_two, crate::specs::PrefixLaws::over_job_limit, crate::specs::PrefixLaws::line_two, crate::specs::PrefixLaws::jobs_few, crate::specs::PrefixLaws::lines_onward))]
-fn read_parts(text: &[u8], at: usize, line: u16, table: &mut [u16; plan::SLOTS]) -> Parts
-    requires max_slots_bound { line + 2 + 5 * max_jobs + max_slots ≤ last_line }
-    requires table_value { table.old ≡ replicate max_slots 0 }
-    ensures { PartsHere text.now result table.new (next_plan (standing text.now at line)) }
-{
-    let NumberAt::Got(slots, second) = slots_field(text, at) else {
-        return no_parts(Err(Refusal::Form(line)));
-    };
-    let limit = plan::slot_limit(slots);
-    if limit.is_err() {
-        return no_parts(limit);
-    }
-    let NumberAt::Got(jobs, third) = jobs_field(text, second) else {
-        return no_parts(Err(Refusal::Form(line + 1)));
-    };
-    let limit = plan::job_limit(jobs);
-    if limit.is_err() {
-        return no_parts(limit);
-    }
-    read_lines(text, third, line + 2, slots, jobs, table)
-}
-
-fn refused(answer: Answer) -> PlanPrefix
-    ensures { result ≡ refused_prefix answer }
-{
-    let blank = plan::blank_plan();
-    PlanPrefix {
-        answer,
-        plan: blank,
-        next: 0,
-        line: 0,
-    }
-}
-
-// Every line of a plan that starts at this line has a number.
-fn has_numbers(line: u16) -> bool
-    ensures { result ≡ numbered line }
-{
-    plan::wide(line) + PLAN_LINES <= LAST_LINE
 }
 
 // The plan at a place of the text, which is the start of that line, whatever follows the plan. Every place and line is answered:
 // past the text's end the line is missing, and where its lines would pass the last number the plan is refused at its first.
-#[tactic(auto, using(crate::specs::PrefixLaws::numbers_fit_lem, crate::specs::PrefixLaws::from_late, crate::specs::PrefixLaws::from_refused, crate::specs::PrefixLaws::from_read))]
 pub fn plan_from(text: &[u8], at: usize, line: u16) -> PlanPrefix
     ensures { result ≡ plan_from text.now at line }
 {
-    if !has_numbers(line) {
-        return refused(Err(Refusal::Form(line)));
-    }
-    let mut table = [0u16; plan::SLOTS];
-    let p = read_parts(text, at, line, &mut table);
-    let answer = p.answer;
-    if answer.is_err() {
-        return refused(answer);
-    }
-    let job = p.job;
-    PlanPrefix {
-        answer: Ok(()),
-        plan: Plan {
-            slots: p.slots,
-            jobs: p.jobs,
-            job,
-            table,
+    let mut lines = Lines { text, at, line };
+    match lines.numbered_plan() {
+        Ok(plan) => PlanPrefix {
+            answer: Ok(()),
+            plan,
+            next: lines.at,
+            line: lines.line,
         },
-        next: p.next,
-        line: p.line,
+        Err(refusal) => PlanPrefix {
+            answer: Err(refusal),
+            plan: plan::blank_plan(),
+            next: 0,
+            line: 0,
+        },
     }
 }
 
@@ -378,38 +195,34 @@ pub fn plan_prefix(text: &[u8]) -> PlanPrefix
     plan_from(text, 0, 1)
 }
 
-fn no_plan(answer: Answer) -> PlanRead
-    ensures { result ≡ refused_read answer }
+// The plan that the text is, with nothing after it.
+fn whole_plan(text: &[u8]) -> Result<Plan, Refusal>
+    ensures { plan_told result ≡ read_plan text.now }
 {
-    let blank = plan::blank_plan();
-    PlanRead {
-        answer,
-        plan: blank,
+    let mut lines = Lines {
+        text,
+        at: 0,
+        line: 1,
+    };
+    let plan = lines.plan()?;
+    if lines.at < text.len() {
+        return Err(Refusal::Form(lines.line));
     }
+    Ok(plan)
 }
 
-// The plan that the text is, with nothing after it.
-#[tactic(auto, using(crate::specs::PrefixLaws::only_refused, crate::specs::PrefixLaws::only_more, crate::specs::PrefixLaws::only_plan_lem))]
+// The plan that the text is, or the refusal beside the blank plan.
 pub fn read_plan(text: &[u8]) -> PlanRead
     ensures { result ≡ read_plan text.now }
 {
-    let mut table = [0u16; plan::SLOTS];
-    let p = read_parts(text, 0, 1, &mut table);
-    let answer = p.answer;
-    if answer.is_err() {
-        return no_plan(answer);
-    }
-    if p.next < text.len() {
-        return no_plan(Err(Refusal::Form(p.line)));
-    }
-    let job = p.job;
-    PlanRead {
-        answer: Ok(()),
-        plan: Plan {
-            slots: p.slots,
-            jobs: p.jobs,
-            job,
-            table,
+    match whole_plan(text) {
+        Ok(plan) => PlanRead {
+            answer: Ok(()),
+            plan,
+        },
+        Err(refusal) => PlanRead {
+            answer: Err(refusal),
+            plan: plan::blank_plan(),
         },
     }
 }

@@ -1,5 +1,5 @@
 -- Sets of jobs: who is ready, a set as one number, how many it holds, and its member of earliest deadline. The laws are in ReadyLaws.
-use Rattle.std.specs.Prelude.{ℕ, zero, suc, ◌+◌, ◌-◌, ◌*◌, ◌/◌, ◌%◌, Bool, true, false, not, ◌&&◌, ◌||◌, get_or, if◌then◌else◌}
+use Rattle.std.specs.Prelude.{ℕ, zero, suc, ◌+◌, ◌-◌, ◌*◌, ◌/◌, ◌%◌, ◌≤◌, Bool, true, false, not, ◌&&◌, ◌||◌, get_or, if◌then◌else◌}
 use mathlib.Core.List.{List, [], ◌∷◌, zip_with}
 use Rattle.words.specs.Words.{◌≤?◌, ◌<?◌, ◌=?◌}
 use Rattle.plan.specs.declared.Job.{Job}
@@ -49,6 +49,11 @@ unfoldable pub better : List Job → Slot → ℕ → Slot
 better js Slot.Idle k = Slot.Job k
 better js (Slot.Job best) k = if goes_before (job_at js k) (job_at js best) then Slot.Job k else Slot.Job best
 
+-- a slot that is idle or names one of w jobs
+abbrev pub among : ℕ → Slot → Type 0
+among w Slot.Idle = Unit
+among w (Slot.Job k) = k ≤ w
+
 -- the best of `best` and the members from number k on
 unfoldable pub earliest_from : List Job → Slot → ℕ → List Bool → Slot
 earliest_from js best k [] = best
@@ -57,12 +62,3 @@ earliest_from js best k (b ∷ bs) = earliest_from js (if b then better js best 
 -- the member of earliest deadline, none means idle
 unfoldable pub earliest : List Job → List Bool → Slot
 earliest js members = earliest_from js Slot.Idle 1 members
-
--- a job's number as a slot; 0 is idle, as in the table
-abbrev pub slot_of : ℕ → Slot
-slot_of zero = Slot.Idle
-slot_of (suc k) = Slot.Job (suc k)
-
--- job k against the best of the lower numbers, 0 where there is none yet
-unfoldable pub winner : List Job → ℕ → ℕ → ℕ
-winner js best k = if (best =? 0) || goes_before (job_at js k) (job_at js best) then k else best

@@ -1,6 +1,6 @@
 -- Laws of sets of jobs, over the width: built job by job, walked by the lowest member, counted by the ones.
-use Rattle.std.specs.Prelude.{ℕ, zero, suc, ◌+◌, ◌-◌, ◌*◌, ◌/◌, ◌%◌, ◌^◌, ◌≤◌, ◌<◌, Bool, true, ◌||◌, ◌≡◌, refl, List, [], ◌∷◌, ◌++◌, length, take, get_or, if◌then◌else◌}
-use Rattle.std.proofs.Common.{pow-suc, add-zero, not-suc-le-zero, le_of_suc-le-suc, add-one, sym, ap, subst, ◌∙◌, lit<, shl_exact, take-suc, length-take-le, eq-eqb, ne_eqb}
+use Rattle.std.specs.Prelude.{ℕ, zero, suc, ◌+◌, ◌-◌, ◌*◌, ◌/◌, ◌%◌, ◌^◌, ◌≤◌, ◌<◌, Bool, true, ◌≡◌, refl, List, [], ◌∷◌, ◌++◌, length, take, get_or, if◌then◌else◌}
+use Rattle.std.proofs.Common.{pow-suc, add-zero, not-suc-le-zero, le_of_suc-le-suc, add-one, sym, subst, ◌∙◌, lit<, shl_exact, take-suc, length-take-le, eq-eqb, ne_eqb}
 use native.Mathlib.Omega.{arith}
 use Rattle.std.proofs.Math.Bool.{false}
 use Rattle.std.specs.Int.Bits.{bit_or, or_shifted_r}
@@ -8,10 +8,9 @@ use Rattle.std.specs.Int.Count.{ones, ones_step, count_trailing_zeros, under}
 use Rattle.words.specs.Words.{◌=?◌}
 use Rattle.words.specs.ZipLaws.{zipped_length, zipped_at}
 use Rattle.plan.specs.declared.Job.{Job}
-use Rattle.plan.specs.Plan.{blank_job}
 use Rattle.entries.specs.declared.Entry.{Entry}
 use Rattle.ready.specs.declared.Slot.{Slot}
-use Rattle.ready.specs.Ready.{is_member, members_among, set_of, members_of, how_many, job_at, goes_before, better, earliest_from, earliest, slot_of, winner}
+use Rattle.ready.specs.Ready.{is_member, members_among, set_of, members_of, how_many, job_at, goes_before, among, better, earliest_from, earliest}
 
 pow2 : (k : ℕ) → 2 ^ suc k ≡ 2 ^ k * 2
 pow2 k = pow-suc 2 k
@@ -25,10 +24,6 @@ module _ (hi : Bool) (t : ℕ) (job : List Job) (entry : List Entry) (n : ℕ) (
   pub among_at : (i : ℕ) (j : Job) (e : Entry) → i < n → get_or (members_among hi t (take n job) entry) i false ≡ is_member hi t (get_or job i j) (get_or entry i e)
   unfolding members_among
   among_at i j e h = zipped_at (is_member hi t) job entry n lj le i j e false h
-
--- a count takes the jobs that another takes: the same set
-pub set_of_same : (hi : Bool) (t k n set : ℕ) (job : List Job) (entry : List Entry) → set ≡ set_of (members_among hi t (take k job) entry) → take k job ≡ take n job → set ≡ set_of (members_among hi t (take n job) entry)
-set_of_same hi t k n set job entry p e = p ∙ ap (λ (js : List Job). set_of (members_among hi t js entry)) e
 
 -- one member more, above the others
 set_snoc : (bs : List Bool) (b : Bool) → set_of (bs ++ (b ∷ [])) ≡ set_of bs + (if b then 2 ^ length bs else 0)
@@ -129,38 +124,24 @@ walk_next js best k (suc w) n h l = go (n % 2) refl (lowest w (n / 2)) (walk_nex
         let one : (n % 2 =? 1) ≡ true = eq-eqb (n % 2) 1 (omega arith) in
         rw (half, even, one, add-zero k)
 
--- the best as a number is the best as a slot
-pub winner_better : (js : List Job) (best k : ℕ) → 0 < k → slot_of (winner js best k) ≡ better js (slot_of best) k
-unfolding winner better
-winner_better js zero (suc k) h = refl
-winner_better js (suc b) (suc k) h = rw (ne_eqb (suc b) 0 (λ (e : suc b ≡ 0). omega arith)) (go (goes_before (job_at js (suc k)) (job_at js (suc b))))
-  where
-    go : (first : Bool) → slot_of (if first then suc k else suc b) ≡ (if first then Slot.Job (suc k) else Slot.Job (suc b))
-    go true = refl
-    go false = refl
-winner_better js best zero h = absurd (not-suc-le-zero h)
-
 -- one turn: the better of the best and the lowest member, which leaves the set
-module _ (js : List Job) (w best b rest r : ℕ) (some : 0 < rest) (small : rest < 2 ^ w) (q : b ≡ best - 1)
-    (won : r ≡ (if (best =? 0) || goes_before (get_or js (count_trailing_zeros w rest) blank_job) (get_or js b blank_job) then count_trailing_zeros w rest + 1 else best)) where
-  won_by : r ≡ winner js best (count_trailing_zeros w rest + 1)
-  unfolding winner
-  won_by =
-      let e : count_trailing_zeros w rest + 1 - 1 ≡ count_trailing_zeros w rest = omega arith in
-      won ∙ rw (e, q)
+better_among : (js : List Job) (w k : ℕ) (best : Slot) → k ≤ w → among w best → among w (better js best k)
+unfolding better
+better_among js w k Slot.Idle h a = h
+better_among js w k (Slot.Job b) h a = go (goes_before (job_at js k) (job_at js b))
+  where
+    go : (first : Bool) → among w (if first then Slot.Job k else Slot.Job b)
+    go true = h
+    go false = a
 
-  pub turn_le : best ≤ w → r ≤ w
-  turn_le h = rw won (go ((best =? 0) || goes_before (get_or js (count_trailing_zeros w rest) blank_job) (get_or js b blank_job)))
-    where
-      go : (first : Bool) → (if first then count_trailing_zeros w rest + 1 else best) ≤ w
-      go true = let l = (lowest w rest some small).within in omega arith
-      go false = h
+module _ (js : List Job) (w : ℕ) (best : Slot) (rest : ℕ) (r : Slot) (some : 0 < rest) (small : rest < 2 ^ w) (won : r ≡ better js best (count_trailing_zeros w rest + 1)) where
+  pub turn_among : among w best → among w r
+  turn_among a = rw won (better_among js w (count_trailing_zeros w rest + 1) best (let l = (lowest w rest some small).within in omega arith) a)
 
-  pub turn : earliest_from js (slot_of r) 1 (members_of w (rest - 2 ^ count_trailing_zeros w rest)) ≡ earliest_from js (slot_of best) 1 (members_of w rest)
+  pub turn : earliest_from js r 1 (members_of w (rest - 2 ^ count_trailing_zeros w rest)) ≡ earliest_from js best 1 (members_of w rest)
   turn =
       let e : count_trailing_zeros w rest + 1 ≡ 1 + count_trailing_zeros w rest = omega arith in
-      let s : slot_of r ≡ better js (slot_of best) (1 + count_trailing_zeros w rest) = ap slot_of won_by ∙ winner_better js best (count_trailing_zeros w rest + 1) (omega arith) ∙ ap (better js (slot_of best)) e in
-      rw s (walk_next js (slot_of best) 1 w rest some small)
+      rw (won, e) (walk_next js best 1 w rest some small)
 
 -- the walk over the set of the members
 pub walk_members : (js : List Job) (w : ℕ) (bs : List Bool) → length bs ≤ w → earliest js (members_of w (set_of bs)) ≡ earliest js bs

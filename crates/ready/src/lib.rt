@@ -1,10 +1,12 @@
 // The ready jobs as one 32-bit set, job 1 at bit 0, and the earliest-deadline walk over a set. Who gets a slot is chosen in executive.
 #![tactic(auto)]
 
-ghost use Rattle.std.specs.Prelude.{◌≡◌, ◌||◌, ◌-◌, ◌≤◌, ◌<◌, take, if◌then◌else◌};
-ghost use Rattle.words.specs.Words.{◌=?◌};
+ghost use Rattle.std.specs.Prelude.{◌≡◌, ◌-◌, ◌≤◌, ◌<◌, Bool, length, take};
+ghost use mathlib.Core.List.{zip_with};
 ghost use Rattle.plan.specs.Limits.{max_jobs};
-ghost use Rattle.ready.specs.Ready.{is_member, members_among, members_of, set_of, goes_before, earliest, slot_of};
+ghost use Rattle.plan.specs.declared.Job.{Job};
+ghost use Rattle.entries.specs.declared.Entry.{Entry};
+ghost use Rattle.ready.specs.Ready.{is_ready, members_among, members_of, set_of, goes_before, better, earliest, among};
 
 use entries::{Entry, is_live};
 use plan::{JOBS, Job, is_hi};
@@ -16,36 +18,25 @@ pub enum Slot {
     Idle,
 }
 
-// A ready job, or with `hi` a ready HI job.
-fn is_member(hi: bool, t: u16, j: Job, e: Entry) -> bool
-    ensures { result ≡ is_member hi t j e }
+// A job is ready while it is live, from its release on.
+fn is_ready(t: u16, j: Job, e: Entry) -> bool
+    ensures { result ≡ is_ready t j e }
 {
-    if !is_live(e) {
-        return false;
-    }
-    if t < j.release {
-        return false;
-    }
-    if !hi {
-        return true;
-    }
-    is_hi(j)
+    is_live(e) && j.release <= t
 }
 
-// The set of the members among the first n jobs.
-fn set_of_first(hi: bool, t: u16, job: [Job; JOBS], entry: [Entry; JOBS], n: usize) -> u32
-    requires { n ≤ max_jobs }
-    ensures { result ≡ set_of (members_among hi t (take n job) entry) }
+// The set of the jobs that pass the test, each with its entry.
+fn set_where<F: Fn(Job, Entry) -> bool>(job: &[Job], entry: &[Entry], passes: F) -> u32
+    requires callable { F.IsAlwaysCallable passes }
+    requires few { length job.now ≤ max_jobs }
+    requires known { length job.now ≤ length entry.now }
+    ensures { (test : Job → Entry → Bool) → ((j : Job) → (e : Entry) → (b : Bool) → F.post passes j e b → b ≡ test j e) → result ≡ set_of (zip_with test job.now entry.now) }
 {
-    let mut set: u32 = 0;
-    let mut i: usize = 0;
-    while i < n {
-        let j = job[i];
-        let e = entry[i];
-        if is_member(hi, t, j, e) {
-            set = set | (1u32 << i);
+    let mut set = 0;
+    for (i, j) in job.iter().enumerate() {
+        if passes(*j, entry[i]) {
+            set |= 1 << i;
         }
-        i += 1;
     }
     set
 }
@@ -54,76 +45,51 @@ fn set_of_first(hi: bool, t: u16, job: [Job; JOBS], entry: [Entry; JOBS], n: usi
 pub fn ready_set(hi: bool, t: u16, job: [Job; JOBS], entry: [Entry; JOBS], n: u16) -> u32
     ensures { result ≡ set_of (members_among hi t (take n job) entry) }
 {
-    let count = plan::wide(n);
-    if count < JOBS {
-        return set_of_first(hi, t, job, entry, count);
+    let first = &job[..JOBS.min(usize::from(n))];
+    if hi {
+        set_where(first, &entry, |j, e| is_ready(t, j, e) && is_hi(j))
+    } else {
+        set_where(first, &entry, |j, e| is_ready(t, j, e))
     }
-    set_of_first(hi, t, job, entry, JOBS)
 }
 
 // Least deadline, then HI before LO; of two alike the lower number stays.
+#[tactic(auto, unfolding(crate::specs::Ready::goes_before))]
 fn goes_before(i: Job, j: Job) -> bool
     ensures { result ≡ goes_before i j }
 {
-    if i.deadline < j.deadline {
-        return true;
-    }
-    if i.deadline != j.deadline {
-        return false;
-    }
-    if !is_hi(i) {
-        return false;
-    }
-    !is_hi(j)
-}
-
-// The number of the better one: job k, or the best so far, 0 where there is none.
-fn winner(best: u16, first: Job, k: u16, j: Job) -> u16
-    ensures { result ≡ (if (best =? 0) || goes_before j first then k else best) }
-{
-    if best == 0 {
-        return k;
-    }
-    if goes_before(j, first) {
-        return k;
-    }
-    best
+    i.deadline < j.deadline || (i.deadline == j.deadline && is_hi(i) && !is_hi(j))
 }
 
 // The index of job k; 0 has that of job 1.
 pub fn index(k: u16) -> usize
     ensures { (result ≡ k - 1) × (result < 65536) }
 {
-    if k == 0 {
-        return 0;
-    }
-    (k - 1) as usize
+    usize::from(k.saturating_sub(1))
 }
 
-fn slot_of(k: u16) -> Slot
-    ensures { result ≡ slot_of k }
+// Job k against the best of the lower numbers.
+#[tactic(auto, unfolding(crate::specs::Ready::better))]
+fn better(job: &[Job; JOBS], best: Slot, k: u16) -> Slot
+    requires { among max_jobs best × (k ≤ max_jobs) }
+    ensures { result ≡ better job.now best k }
 {
-    if k == 0 {
-        return Slot::Idle;
+    match best {
+        Slot::Job(first) if !goes_before(job[index(k)], job[index(first)]) => best,
+        _ => Slot::Job(k),
     }
-    Slot::Job(k)
 }
 
 // The member of earliest deadline, none means idle. Each turn takes the lowest member out.
 pub fn earliest(job: [Job; JOBS], set: u32) -> Slot
     ensures { result ≡ earliest job (members_of max_jobs set) }
 {
-    let mut best: u16 = 0;
+    let mut best = Slot::Idle;
     let mut rest = set;
-    while 0 < rest {
-        let lowest = u32::trailing_zeros(rest);
-        let at = lowest as usize;
-        let j = job[at];
-        let b = index(best);
-        let first = job[b];
-        let k = lowest as u16 + 1;
-        best = winner(best, first, k, j);
-        rest = rest - (1u32 << lowest);
+    while rest != 0 {
+        let lowest = rest.trailing_zeros();
+        best = better(&job, best, lowest as u16 + 1);
+        rest -= 1 << lowest;
     }
-    slot_of(best)
+    best
 }

@@ -91,18 +91,18 @@ runs_starts k (s ∷ u ∷ ss) =
 counted_at : (k s : ℕ) (counts : List ℕ) → 1 ≤ k → k ≤ max_jobs → length counts ≡ max_jobs → get_or counts (k - 1) 0 < max_count → get_or (counted_with counts s) (k - 1) 0 ≡ get_or counts (k - 1) 0 + bit (s =? k)
 counted_at k s counts one few n room =
     by_equal s k
-    (λ e. rw (e, eq-eqb k k refl, ← counted_more counts k (k - 1) one refl (omega arith) room) (get_or-set_same counts (k - 1) _ 0 (omega arith)))
+    (λ e. rw (e, eq-eqb k k refl, ← counted_more counts k one few room) (get_or-set_same counts (k - 1) _ 0 (omega arith)))
     (λ e. rw (ne_eqb s k e) (other e ∙ omega arith))
   where
     other : (s ≡ k → ⊥) → get_or (counted_with counts s) (k - 1) 0 ≡ get_or counts (k - 1) 0
     other e =
         by_less s 1
         (λ l. rw (← counted_none counts s l))
-        (λ l. by_less (s - 1) max_jobs
+        (λ l. by_less max_jobs s
+        (λ h. rw (← counted_above counts s h))
         (λ h. by_less (get_or counts (s - 1) 0) max_count
-        (λ r. rw (← counted_more counts s (s - 1) l refl h r) (get_or-set_other counts (s - 1) (k - 1) _ 0 (λ q. e (omega arith))))
-        (λ r. rw (← counted_full counts s (s - 1) l refl h r)))
-        (λ h. rw (← counted_above counts s (s - 1) l refl h)))
+        (λ r. rw (← counted_more counts s l h r) (get_or-set_other counts (s - 1) (k - 1) _ 0 (λ q. e (omega arith))))
+        (λ r. rw (← counted_full counts s l h r))))
 
 -- the counts keep their number
 counted_length : (counts : List ℕ) (s : ℕ) → length (counted_with counts s) ≡ length counts

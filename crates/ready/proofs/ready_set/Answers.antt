@@ -1,24 +1,21 @@
 -- `ready_set` meets its contract: a count beyond the array takes all of it.
-use Prim.Native.Nat.{ℕ}
-use native.Mathlib.Omega.{arith}
-use mathlib.Core.Path.{◌≡◌, sym, ap, ◌∙◌}
-use lib.ListN.{length, take}
-use lib.Seq.{take_all}
+use Rattle.std.proofs.Common.{true, false, arith, rules, ◌≡◌, sym, length, min}
 use Rattle.words.specs.ListLaws.{long}
+use Rattle.words.specs.PartLaws.{take_min}
 use Rattle.plan.specs.Limits.{max_jobs}
-use Rattle.ready.specs.ReadyLaws.{set_of_same}
-use borrow.Author.Rules.{rules}
+use Rattle.ready.specs.Ready.{is_member, members_among}
 use Rattle.ready.proofs.ready_set.Goals as goal
-use Rattle.ready.proofs.ready_set.Goals.{Start}
 
-full : (c : Start) → length c.args.job ≡ max_jobs
-full c = search (rules, long)
+pub returns-then-hi : goal.returns-then-hi
+unfolding members_among is_member
+returns-then-hi c =
+    let size : length c.args.job ≡ max_jobs = search (rules, long) in
+    let cut : c.min.result ≡ min c.args.n max_jobs = omega arith in
+    rw (c.if-hi.true, sym (take_min c.args.n max_jobs c.args.job size), sym cut) (c.set_where.ensures (is_member true c.args.t) (λ j e b p. search rules))
 
-pub returns-then-count-lt-JOBS : goal.returns-then-count-lt-JOBS
-returns-then-count-lt-JOBS c =
-    set_of_same c.args.hi c.args.t c.wide-count.result c.args.n _ c.args.job c.args.entry c.set_of_first.ensures (ap (λ (k : ℕ). take k c.args.job) c.wide-count.ensures.0)
-
-pub returns : goal.returns
-returns c =
-    let l = full (goal.at.returns c).Start in
-    set_of_same c.args.hi c.args.t max_jobs c.args.n _ c.args.job c.args.entry c.set_of_first-2.ensures (take_all max_jobs c.args.job (omega arith) ∙ sym (take_all c.args.n c.args.job (omega (arith, c.wide-count.ensures.0))))
+pub returns-else-hi : goal.returns-else-hi
+unfolding members_among is_member
+returns-else-hi c =
+    let size : length c.args.job ≡ max_jobs = search (rules, long) in
+    let cut : c.min.result ≡ min c.args.n max_jobs = omega arith in
+    rw (c.if-hi.false, sym (take_min c.args.n max_jobs c.args.job size), sym cut) (c.set_where-else-hi.ensures (is_member false c.args.t) (λ j e b p. search rules))

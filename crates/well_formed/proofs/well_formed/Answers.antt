@@ -1,119 +1,119 @@
--- `well_formed` meets its contract: a refusal is the whole answer, and past an acceptance the rest is. The limits hold before checks 4 to 7 and 17.
-use Prim.Native.Nat.{◌≤◌}
-use mathlib.Core.Path.{◌≡◌, refl, ◌∙◌}
-use lib.ListN.{length}
+-- `well_formed` meets its contract: a refusal is the whole answer, and past an acceptance the rest is.
+use Prim.Native.Nat.{ℕ, ◌≤◌}
+use mathlib.Core.Path.{◌≡◌, refl, sym, ap, ◌∙◌}
+use lib.ListN.{length, take}
 use borrow.Author.Rules.{rules}
 use Rattle.words.specs.ListLaws.{long}
-use Rattle.answers.specs.Answer.{Answer, accepted, ◌and_then◌}
+use Rattle.answers.specs.Answer.{Answer, Accepted, accepted, ◌and_then◌}
+use Rattle.answers.specs.AnswerLaws.{goes_on, stops}
 use Rattle.plan.specs.Limits.{max_slots, max_jobs}
-use Rattle.plan.specs.Plan.{slots_of, counts_at}
 use Rattle.plan.specs.Rules.{check2, check3}
 use Rattle.well_formed.specs.WellFormed.{check4, check5, check6, check7, well_formed}
-use Rattle.well_formed.specs.RunWords.{no_runs, runs_from}
-use Rattle.well_formed.specs.Parts.{windows_rule, budgets_rule}
-use Rattle.answers.specs.AnswerLaws.{refuses, passed, passes}
+use Rattle.well_formed.specs.Parts.{windows_from, budgets_from, counts_from, chopped_from, windows_rule, budgets_rule}
 use Rattle.well_formed.proofs.Laws.{limit_holds, counts_rule, runs_rule}
-use Rattle.std.proofs.Common.{ap}
-use Rattle.std.specs.Prelude.{not}
+use Rattle.std.proofs.lemmas.Result.{err_from_is_err_and}
 use Rattle.well_formed.proofs.well_formed.Goals as goal
-use Rattle.well_formed.proofs.well_formed.Goals.{After-check7-named, Else-not-is_accepted, Else-not-is_accepted-2, Else-not-is_accepted-3, Else-not-is_accepted-4, Else-not-is_accepted-5, Else-not-is_accepted-6, Start}
+use Rattle.well_formed.proofs.well_formed.Goals.{In_ok-slot_limit, In_ok-job_limit, In_ok-check4, In_ok-check5, In_ok-scanned, In_ok-check7, After-check4, After-check5, After-check7}
 
--- past check 2, 3 and so on the rest is the answer
-on2 : (c : Else-not-is_accepted) (rest : Answer) → rest ≡ (check2 c.before.before.before.args.p and_then rest)
+-- check 4 and check 5 are of the plan's own jobs
+fourth : (c : After-check4) → c.check4.result ≡ check4 c.args.p
+fourth c = c.check4.ensures ∙ ap (λ (n : ℕ). windows_from c.args.p.slots (take n c.args.p.job)) c.from-n.ensures ∙ windows_rule c.args.p
+
+fifth : (c : After-check5) → c.check5.result ≡ check5 c.args.p
+fifth c = c.check5.ensures ∙ ap (λ (n : ℕ). budgets_from c.args.p.slots (take n c.args.p.job)) c.from-n.ensures ∙ budgets_rule c.args.p
+
+-- past a check it has accepted
+ok2 : (c : In_ok-slot_limit) → check2 c.args.p ≡ Accepted
 unfolding check2
-on2 c rest = passes _ _ _ _ c.before.before.slot_limit-slots.ensures c.before.is_accepted.ensures (ap not c.if-not-is_accepted.false)
+ok2 c = sym c.slot_limit.ensures ∙ c.in_ok-slot_limit.was
 
-on3 : (c : Else-not-is_accepted-2) (rest : Answer) →
-    let p = c.before.before.before.before.before.before.args.p in
-    rest ≡ (check2 p and_then check3 p and_then rest)
+ok3 : (c : In_ok-job_limit) → check3 c.args.p ≡ Accepted
 unfolding check3
-on3 c rest = passes _ _ _ _ c.before.before.job_limit-jobs.ensures c.before.is_accepted-2.ensures (ap not c.if-not-is_accepted-2.false) ∙ on2 c.before.before.before _
+ok3 c = sym c.job_limit.ensures ∙ c.in_ok-job_limit.was
 
-on4 : (c : Else-not-is_accepted-3) (rest : Answer) →
-    let p = c.before.before.before.before.before.before.before.before.before.before.args.p in
-    rest ≡ (check2 p and_then check3 p and_then check4 p and_then rest)
-on4 c rest = passes _ _ _ _ (c.before.before.check4-windows.ensures ∙ windows_rule c.before.before.before.before.before.before.before.before.before.before.args.p) c.before.is_accepted-3.ensures (ap not c.if-not-is_accepted-3.false) ∙ on3 c.before.before.before.before _
+ok4 : (c : In_ok-check4) → check4 c.args.p ≡ Accepted
+ok4 c = sym (fourth (goal.at.In_ok-check4 c).After-check4) ∙ c.in_ok-check4.was
 
-on5 : (c : Else-not-is_accepted-4) (rest : Answer) →
-    let p = c.before.before.before.before.before.before.before.before.before.before.before.before.before.args.p in
-    rest ≡ (check2 p and_then check3 p and_then check4 p and_then check5 p and_then rest)
-on5 c rest = passes _ _ _ _ (c.before.before.check5-budgets.ensures ∙ budgets_rule c.before.before.before.before.before.before.before.before.before.before.before.before.before.args.p) c.before.is_accepted-4.ensures (ap not c.if-not-is_accepted-4.false) ∙ on4 c.before.before.before _
+ok5 : (c : In_ok-check5) → check5 c.args.p ≡ Accepted
+ok5 c = sym (fifth (goal.at.In_ok-check5 c).After-check5) ∙ c.in_ok-check5.was
 
-on6 : (c : Else-not-is_accepted-5) (rest : Answer) →
-    let p = c.before.before.before.before.before.before.before.before.before.before.before.before.before.before.before.before.args.p in
-    rest ≡ (check2 p and_then check3 p and_then check4 p and_then check5 p and_then check6 p and_then rest)
-on6 c rest = passes _ _ _ _ c.before.before.check6-scanned.ensures.0 c.before.is_accepted-5.ensures (ap not c.if-not-is_accepted-5.false) ∙ on5 c.before.before.before _
+ok6 : (c : In_ok-scanned) → check6 c.args.p ≡ Accepted
+ok6 c = c.in_ok-scanned.ensures.0
 
 -- past checks 2 and 3 the limits hold
-slots_fit : (c : Else-not-is_accepted) → c.before.before.before.args.p.slots ≤ max_slots
-unfolding accepted
-slots_fit c = limit_holds _ _ _ refl (passed _ _ _ c.before.before.slot_limit-slots.ensures c.before.is_accepted.ensures (ap not c.if-not-is_accepted.false))
+slots_fit : (c : In_ok-slot_limit) → c.args.p.slots ≤ max_slots
+unfolding accepted check2
+slots_fit c = limit_holds _ _ _ refl (ap accepted (ok2 c))
 
-jobs_fit : (c : Else-not-is_accepted-2) → c.before.before.before.before.before.before.args.p.jobs ≤ max_jobs
-unfolding accepted
-jobs_fit c = limit_holds _ _ _ refl (passed _ _ _ c.before.before.job_limit-jobs.ensures c.before.is_accepted-2.ensures (ap not c.if-not-is_accepted-2.false))
+jobs_fit : (c : In_ok-job_limit) → c.args.p.jobs ≤ max_jobs
+unfolding accepted check3
+jobs_fit c = limit_holds _ _ _ refl (ap accepted (ok3 c))
 
-pub returns-then-not-is_accepted : goal.returns-then-not-is_accepted
-unfolding well_formed check2
-returns-then-not-is_accepted c = refuses _ _ _ _ c.slot_limit-slots.ensures c.is_accepted.ensures (ap not c.if-not-is_accepted.true)
+-- and the rest is the answer
+past3 : (c : In_ok-job_limit) (rest : Answer) → rest ≡ (check2 c.args.p and_then check3 c.args.p and_then rest)
+past3 c rest = goes_on _ _ (ok3 c) ∙ goes_on _ _ (ok2 (goal.at.In_ok-job_limit c).In_ok-slot_limit)
 
-pub returns-then-not-is_accepted-2 : goal.returns-then-not-is_accepted-2
-unfolding well_formed check3
-returns-then-not-is_accepted-2 c = refuses _ _ _ _ c.job_limit-jobs.ensures c.is_accepted-2.ensures (ap not c.if-not-is_accepted-2.true) ∙ on2 (goal.at.returns-then-not-is_accepted-2 c).Else-not-is_accepted _
-
-pub check4-windows-requires : goal.check4-windows-requires
-check4-windows-requires c = jobs_fit (goal.at.check4-windows-requires c).Else-not-is_accepted-2
-
-pub returns-then-not-is_accepted-3 : goal.returns-then-not-is_accepted-3
-unfolding well_formed
-returns-then-not-is_accepted-3 c = refuses _ _ _ _ (c.check4-windows.ensures ∙ windows_rule c.args.p) c.is_accepted-3.ensures (ap not c.if-not-is_accepted-3.true) ∙ on3 (goal.at.returns-then-not-is_accepted-3 c).Else-not-is_accepted-2 _
-
-pub check5-budgets-requires : goal.check5-budgets-requires
-check5-budgets-requires c = jobs_fit (goal.at.check5-budgets-requires c).Else-not-is_accepted-2
-
-pub returns-then-not-is_accepted-4 : goal.returns-then-not-is_accepted-4
-unfolding well_formed
-returns-then-not-is_accepted-4 c = refuses _ _ _ _ (c.check5-budgets.ensures ∙ budgets_rule c.args.p) c.is_accepted-4.ensures (ap not c.if-not-is_accepted-4.true) ∙ on4 (goal.at.returns-then-not-is_accepted-4 c).Else-not-is_accepted-3 _
-
-pub check6-scanned-requires : goal.check6-scanned-requires
-check6-scanned-requires c = (slots_fit (goal.at.check6-scanned-requires c).Else-not-is_accepted, jobs_fit (goal.at.check6-scanned-requires c).Else-not-is_accepted-2)
-
-pub returns-then-not-is_accepted-5 : goal.returns-then-not-is_accepted-5
-unfolding well_formed
-returns-then-not-is_accepted-5 c = refuses _ _ _ _ c.check6-scanned.ensures.0 c.is_accepted-5.ensures (ap not c.if-not-is_accepted-5.true) ∙ on5 (goal.at.returns-then-not-is_accepted-5 c).Else-not-is_accepted-4 _
-
-pub check7-named-requires : goal.check7-named-requires
-check7-named-requires c = jobs_fit (goal.at.check7-named-requires c).Else-not-is_accepted-2
-
--- the plan has an entry for each job
-size : (c : Start) → length c.args.p.job ≡ max_jobs
-size c = search (rules, long)
-
--- what the scan has counted, past check 6
-scanned : (c : Else-not-is_accepted-5) →
-    let p = c.before.before.before.before.before.before.before.before.before.before.before.before.before.before.before.before.args.p in
-    (c.before.before.check6-scanned.result.counts ≡ counts_at p p.slots) × (c.before.before.check6-scanned.result.runs ≡ runs_from 0 no_runs (slots_of p))
-scanned c = c.before.before.check6-scanned.ensures.1 (passed _ _ _ refl c.before.is_accepted-5.ensures (ap not c.if-not-is_accepted-5.false))
+past5 : (c : In_ok-check5) (rest : Answer) → rest ≡ (check2 c.args.p and_then check3 c.args.p and_then check4 c.args.p and_then check5 c.args.p and_then rest)
+past5 c rest = let at = goal.at.In_ok-check5 c in goes_on _ _ (ok5 c) ∙ goes_on _ _ (ok4 at.In_ok-check4) ∙ past3 at.In_ok-job_limit _
 
 -- check 7 by its parts is the rule
-named : (c : After-check7-named) →
-    let p = c.before.before.before.before.before.before.before.before.before.before.before.before.before.before.before.before.before.before.args.p in
-    c.check7-named.result ≡ check7 p
-named c = c.check7-named.ensures ∙ counts_rule _ _ (scanned c.before.before).0 (jobs_fit c.before.before.before.before.before.before.before.before.before.before.before.before)
+named : (c : After-check7) → c.check7.result ≡ check7 c.args.p
+named c =
+    c.check7.ensures
+    ∙ ap (λ (n : ℕ). counts_from c.in_ok-scanned.scanned.counts (take n c.args.p.job)) c.from-n.ensures
+    ∙ counts_rule _ _ c.in_ok-scanned.ensures.1 (jobs_fit (goal.at.After-check7 c).In_ok-job_limit)
 
-on7 : (c : Else-not-is_accepted-6) (rest : Answer) →
-    let p = c.before.before.before.before.before.before.before.before.before.before.before.before.before.before.before.before.before.before.before.before.args.p in
+past7 : (c : In_ok-check7) (rest : Answer) →
+    let p = c.args.p in
     rest ≡ (check2 p and_then check3 p and_then check4 p and_then check5 p and_then check6 p and_then check7 p and_then rest)
-on7 c rest = passes _ _ _ _ (named c.before.before) c.before.is_accepted-6.ensures (ap not c.if-not-is_accepted-6.false) ∙ on6 c.before.before.before.before _
+past7 c rest =
+    let at = goal.at.In_ok-check7 c in
+    goes_on _ _ (sym (named at.After-check7) ∙ c.in_ok-check7.was) ∙ goes_on _ _ (ok6 at.In_ok-scanned) ∙ past5 at.In_ok-check5 _
 
-pub returns-then-not-is_accepted-6 : goal.returns-then-not-is_accepted-6
+-- the plan has an entry for each job
+size : (c : In_ok-slot_limit) → length c.args.p.job ≡ max_jobs
+size c = search (rules, long)
+
+pub returns-in_err-slot_limit : goal.returns-in_err-slot_limit
+unfolding well_formed check2
+returns-in_err-slot_limit c =
+    let p = err_from_is_err_and c.from_residual.result c.from_residual.ensures.1 in
+    rw (p.1, p.2) (stops _ _ _ (sym c.slot_limit.ensures ∙ c.in_err-slot_limit.was))
+
+pub returns-in_err-job_limit : goal.returns-in_err-job_limit
+unfolding well_formed check3
+returns-in_err-job_limit c =
+    let p = err_from_is_err_and c.from_residual-in_err-job_limit.result c.from_residual-in_err-job_limit.ensures.1 in
+    rw (p.1, p.2) (stops _ _ _ (sym c.job_limit.ensures ∙ c.in_err-job_limit.was) ∙ goes_on _ _ (ok2 (goal.at.returns-in_err-job_limit c).In_ok-slot_limit))
+
+pub returns-in_err-check4 : goal.returns-in_err-check4
 unfolding well_formed
-returns-then-not-is_accepted-6 c = refuses _ _ _ _ (named (goal.at.returns-then-not-is_accepted-6 c).After-check7-named) c.is_accepted-6.ensures (ap not c.if-not-is_accepted-6.true) ∙ on6 (goal.at.returns-then-not-is_accepted-6 c).Else-not-is_accepted-5 _
+returns-in_err-check4 c =
+    let p = err_from_is_err_and c.from_residual-in_err-check4.result c.from_residual-in_err-check4.ensures.1 in
+    rw (p.1, p.2) (stops _ _ _ (sym (fourth (goal.at.returns-in_err-check4 c).After-check4) ∙ c.in_err-check4.was) ∙ past3 (goal.at.returns-in_err-check4 c).In_ok-job_limit _)
 
-pub check17-requires : goal.check17-requires
-check17-requires c = jobs_fit (goal.at.check17-requires c).Else-not-is_accepted-2
+pub returns-in_err-check5 : goal.returns-in_err-check5
+unfolding well_formed
+returns-in_err-check5 c =
+    let at = goal.at.returns-in_err-check5 c in
+    let p = err_from_is_err_and c.from_residual-in_err-check5.result c.from_residual-in_err-check5.ensures.1 in
+    rw (p.1, p.2) (stops _ _ _ (sym (fifth at.After-check5) ∙ c.in_err-check5.was) ∙ goes_on _ _ (ok4 at.In_ok-check4) ∙ past3 at.In_ok-job_limit _)
+
+pub returns-in_err-scanned : goal.returns-in_err-scanned
+unfolding well_formed
+returns-in_err-scanned c =
+    let p = err_from_is_err_and c.from_residual-in_err-scanned.result c.from_residual-in_err-scanned.ensures.1 in
+    rw (p.1, p.2) (stops _ _ _ (c.in_err-scanned.ensures) ∙ past5 (goal.at.returns-in_err-scanned c).In_ok-check5 _)
+
+pub returns-in_err-check7 : goal.returns-in_err-check7
+unfolding well_formed
+returns-in_err-check7 c =
+    let at = goal.at.returns-in_err-check7 c in
+    let p = err_from_is_err_and c.from_residual-in_err-check7.result c.from_residual-in_err-check7.ensures.1 in
+    rw (p.1, p.2) (stops _ _ _ (sym (named at.After-check7) ∙ c.in_err-check7.was) ∙ goes_on _ _ (ok6 at.In_ok-scanned) ∙ past5 at.In_ok-check5 _)
 
 pub returns : goal.returns
 unfolding well_formed
 returns c =
-    c.check17.ensures ∙ runs_rule c.args.p _ (scanned (goal.at.returns c).Else-not-is_accepted-5).1 (size (goal.at.returns c).Start) (jobs_fit (goal.at.returns c).Else-not-is_accepted-2) (slots_fit (goal.at.returns c).Else-not-is_accepted) ∙ on7 (goal.at.returns c).Else-not-is_accepted-6 _
+    let at = goal.at.returns c in
+    c.check17.ensures ∙ ap (λ (n : ℕ). chopped_from (take n c.in_ok-scanned.scanned.runs)) c.from-n.ensures ∙ runs_rule c.args.p _ c.in_ok-scanned.ensures.2 (size at.In_ok-slot_limit) (jobs_fit at.In_ok-job_limit) (slots_fit at.In_ok-slot_limit) ∙ past7 at.In_ok-check7 _

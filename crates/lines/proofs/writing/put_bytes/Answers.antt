@@ -1,21 +1,14 @@
--- `writing::put_bytes`: one byte more is pasted, and all of them pasted are the piece put.
-use Rattle.std.proofs.Common.{◌≡◌, ◌∙◌, sym, length, arith, length-set}
+-- `writing::put_bytes`: the part of the output that was copied over is the piece.
+use Rattle.std.proofs.Common.{◌+◌, ◌≤◌, ◌∙◌, sym, refl, leb-true, length, arith}
 use Rattle.std.proofs.Math.Seq.{take-length}
-use Rattle.std.proofs.lemmas.List.Edits.{paste_more}
+use Rattle.std.proofs.lemmas.Slice.{put_mid-paste}
 use Rattle.lines.specs.Writing.{put}
 use Rattle.lines.specs.WritingLaws.{put_fits}
 use Rattle.lines.proofs.writing.put_bytes.Goals as goal
 
-pub loop-j-preserved : goal.loop-j-preserved
-loop-j-preserved c = record {
-  within = omega arith;
-  text = rw c.loop-j.invariant.text (paste_more c.args.out.now c.args.at c.args.w.now c.loop-j.j 0 (omega arith) (omega arith));
-  room = simp length-set c.loop-j.invariant.room;
-}
-
 pub returns-clause-out_after : goal.returns-clause-out_after
 unfolding put
 returns-clause-out_after c =
-    let e : c.loop-j.j ≡ length c.args.w.now = omega arith in
-    let p : c.loop-j.out ≡ put c.args.at c.args.w.now c.args.out.now = c.loop-j.invariant.text ∙ rw (e, take-length) in
-    p ∙ sym (put_fits c.args.at c.args.w.now c.args.out.now (omega arith))
+    let room : c.args.at + length c.args.w.now ≤ length c.args.out.now = leb-true _ _ (sym c.if-not-has_room.ensures) in
+    put_mid-paste c.args.at _ c.args.out.now _ c.args.w.now (length c.args.w.now) c.copy_from_slice.ensures.after (omega arith) refl
+    ∙ rw take-length (sym (put_fits c.args.at c.args.w.now c.args.out.now (omega arith)))
