@@ -189,36 +189,39 @@ module _ {A : Type 0} (meaning : List ℕ → Option A) (t : List ℕ) (at : ℕ
 
 -- ---- a field at a place is the definitions' field
 
-module _ {A : Type 0} (meaning : List ℕ → Option A) (key : String) (t : List ℕ) (at l m : ℕ) where
+module _ {A : Type 0} (meaning : List ℕ → Option A) (key : List ℕ) (t : List ℕ) (at l m : ℕ) where
   -- the line of a value is closed
-  pub value_within : (v : A) → value_in meaning (bytes key) (drop at t) ≡ Some v → line_after t at ≤ length t
+  pub line_within : (v : A) → value_in meaning key (drop at t) ≡ Some v → line_after t at ≤ length t
   unfolding value_in
-  value_within v e = inner (line_length (drop at t) <? length (drop at t)) (begins (bytes key) (take (line_length (drop at t)) (drop at t))) refl e
+  line_within v e = inner (line_length (drop at t) <? length (drop at t)) (begins key (take (line_length (drop at t)) (drop at t))) refl e
     where
       inner : (b d : Bool) → (line_length (drop at t) <? length (drop at t)) ≡ b
-          → (if b && d then meaning (drop (length (bytes key)) (take (line_length (drop at t)) (drop at t))) else None) ≡ Some v
+          → (if b && d then meaning (drop (length key) (take (line_length (drop at t)) (drop at t))) else None) ≡ Some v
           → line_after t at ≤ length t
       inner true d p e = omega (arith, simp length-drop at (ltb-true (line_length (drop at t)) (length (drop at t)) p))
       inner false d p e = absurd (none-some v e)
 
   -- a value that was read, and the place after its line: the reader then stands before the next line, m
-  pub field_got : m ≡ suc l → (v : A × ℕ) → Some v ≡ field_at meaning t at (bytes key)
-      → (field meaning key (standing t at l) ≡ got v.0 (standing t v.1 m)) × (v.1 ≤ length t)
-  unfolding field field_at
-  field_got n v e = inner (value_in meaning (bytes key) (drop at t)) refl e
+  pub field_got : m ≡ suc l → (v : A × ℕ) → Some v ≡ field_at meaning t at key
+      → (or_form (value_in meaning key (drop at t)) (standing t at l) ≡ got v.0 (standing t v.1 m)) × (v.1 ≤ length t)
+  unfolding field_at
+  field_got n v e = inner (value_in meaning key (drop at t)) refl e
     where
-      inner : (o : Option A) → value_in meaning (bytes key) (drop at t) ≡ o → Some v ≡ option_map (λ a. (a, line_after t at)) o
+      inner : (o : Option A) → value_in meaning key (drop at t) ≡ o → Some v ≡ option_map (λ a. (a, line_after t at)) o
           → (or_form o (standing t at l) ≡ got v.0 (standing t v.1 m)) × (v.1 ≤ length t)
       inner (Some a) p e =
           let w : v ≡ (a, line_after t at) = same_Some v (a, line_after t at) e in
           let k : at + suc (line_length (drop at t)) ≡ line_after t at = omega arith in
-          rw w (rw (drop-drop, k, n), value_within a p)
+          rw w (rw (drop-drop, k, n), line_within a p)
       inner None p e = absurd (none-some v (sym e))
 
-  pub field_refused : None ≡ field_at meaning t at (bytes key) → field meaning key (standing t at l) ≡ refused (Form l)
-  unfolding field field_at
-  field_refused e = inner (value_in meaning (bytes key) (drop at t)) e
+  pub field_refused : None ≡ field_at meaning t at key → or_form (value_in meaning key (drop at t)) (standing t at l) ≡ refused (Form l)
+  unfolding field_at
+  field_refused e = inner (value_in meaning key (drop at t)) e
     where
       inner : (o : Option A) → ◌≡◌ {A = Option (A × ℕ)} None (option_map (λ a. (a, line_after t at)) o) → or_form o (standing t at l) ≡ refused (Form l)
       inner (Some a) e = absurd (none-some _ e)
       inner None e = refl
+
+pub value_within : {A : Type 0} (meaning : List ℕ → Option A) (key : String) (t : List ℕ) (at l m : ℕ) (v : A) → value_in meaning (bytes key) (drop at t) ≡ Some v → line_after t at ≤ length t
+value_within meaning key t at l m v = line_within meaning (bytes key) t at l m v

@@ -1,78 +1,22 @@
--- Laws of the plan at a place of a text: each return of the code by its law, and that the rest of the text begins at the place it says.
-use Rattle.std.specs.Prelude.{ℕ, ◌+◌, ◌-◌, ◌*◌, ◌≤◌, ◌<◌, ◌≡◌, Bool, ◌&&◌, List, drop, Some, None, if◌then◌else◌}
-use Rattle.std.proofs.Common.{arith, sym, ◌∙◌}
+-- Laws of the plan at the start of a text: what it says of the definitions' reader, and that the rest of the text begins at the place it says.
+use Rattle.std.specs.Prelude.{ℕ, ◌≤◌, ◌≡◌, Bool, ◌&&◌, List}
+use Rattle.std.proofs.Common.{arith}
 use Rattle.std.proofs.Math.Path.{refl, ap}
 use Rattle.std.proofs.Math.Bool.{true, false}
-use Rattle.std.proofs.Math.ListN.{length, length-drop}
-use borrow.Author.Tests.{leb-true, eq-eqb, ne_eqb}
-use Rattle.words.specs.Words.{◌≤?◌, ◌=?◌, filled}
-use Rattle.answers.specs.Answer.{Answer, Accepted, Form, SlotLimit, JobLimit, accepted, ◌unless◌}
-use Rattle.plan.specs.declared.Job.{Job}
+use Rattle.std.proofs.Math.ListN.{length}
+use borrow.Author.Tests.{leb-true}
+use Rattle.words.specs.Words.{◌≤?◌}
+use Rattle.answers.specs.Answer.{Answer, SlotLimit, JobLimit, accepted, ◌unless◌}
 use Rattle.plan.specs.declared.Plan.{Plan}
 use Rattle.plan.specs.Limits.{max_slots, max_jobs, one_to}
-use Rattle.plan.specs.Plan.{blank_job}
-use Rattle.lines.specs.Lines.{bytes, number, Read, got, refused, Reader, give, onward, must, many, field, nothing_after}
-use Rattle.lines.specs.Reading.{field_at, standing, filled_read, array_read, ArrayHere}
-use Rattle.lines.specs.ReadingLaws.{field_got, field_refused}
-use Rattle.lines.specs.ManyLaws.{onward_filled}
+use Rattle.lines.specs.Lines.{number, Read, got, refused, must, many, field}
+use Rattle.lines.specs.Reading.{standing}
 use Rattle.lines.specs.ForwardLaws.{end_self, end_place, Forward, GoesForward, onward_forward, must_forward, many_forward, field_forward}
-use Rattle.plan_text.specs.Read.{level_in, next_job, next_plan, start_of, only_plan, read_plan}
-use Rattle.plan_text.specs.Reader.{next_lines, refused_parts, PartsHere, last_line, numbered, refused_prefix, refused_read, prefix_of, plan_from, plan_prefix}
-use Rattle.plan_text.specs.ReaderLaws.{form_refuses}
-use Rattle.plan_text.specs.declared.reader.Parts.{Parts}
+use Rattle.plan_text.specs.Read.{level_in, next_job, next_plan, start_of}
+use Rattle.plan_text.specs.Reader.{prefix_of, plan_from, plan_prefix}
 use Rattle.plan_text.specs.declared.reader.PlanPrefix.{PlanPrefix}
 
--- ---- the lines of the jobs and of the slots
-
--- what is read after the jobs, and after the slots
-abbrev after_jobs : ℕ → ℕ → List Job → Reader Plan
-after_jobs slots jobs job =
-    λ here. onward (many slots (field number "slot=") here)
-    (λ table. give (record { slots = slots; jobs = jobs; job = job; table = filled max_slots 0 table }))
-
-abbrev after_slots : ℕ → ℕ → List Job → List ℕ → Reader Plan
-after_slots slots jobs job table = give (record { slots = slots; jobs = jobs; job = job; table = table })
-
--- an answer that is refused, whatever stands in the table
-pub here_refused : (t : List ℕ) (answer : Answer) (table : List ℕ) (plan : Read Plan) → accepted answer ≡ false → plan ≡ refused answer
-    → PartsHere t (refused_parts answer) table plan
-here_refused t answer table plan f e = record { read = rw f (sym e); within = omega arith }
-
-module _ (t : List ℕ) (at l slots jobs : ℕ) (answer : Answer) (job : List Job) (next : ℕ)
-    (jobs-here : ArrayHere t (l + 5 * jobs) answer job next (filled_read max_jobs blank_job (many jobs next_job (standing t at l)))) where
-  lines_are : next_lines slots jobs (standing t at l) ≡ onward (array_read t (l + 5 * jobs) answer job next) (after_jobs slots jobs)
-  unfolding next_lines
-  lines_are =
-      onward_filled max_jobs blank_job (many jobs next_job (standing t at l)) (after_jobs slots jobs)
-      ∙ ap (λ r. onward r (after_jobs slots jobs)) (sym jobs-here.read)
-
-  pub lines_no_jobs : (table : List ℕ) → accepted answer ≡ false → PartsHere t (refused_parts answer) table (next_lines slots jobs (standing t at l))
-  lines_no_jobs table e = here_refused t answer table _ e (rw (lines_are, e))
-
-  module _ (jobs-read : accepted answer ≡ true) (answer' : Answer) (table : List ℕ) (next' : ℕ)
-      (slots-here : ArrayHere t (l + 5 * jobs + slots) answer' table next'
-      (filled_read max_slots 0 (many slots (field number "slot=") (standing t next (l + 5 * jobs))))) where
-    slots_are : next_lines slots jobs (standing t at l)
-        ≡ onward (array_read t (l + 5 * jobs + slots) answer' table next') (after_slots slots jobs job)
-    slots_are =
-        lines_are
-        ∙ rw jobs-read
-        (onward_filled max_slots 0 (many slots (field number "slot=") (standing t next (l + 5 * jobs))) (after_slots slots jobs job)
-        ∙ ap (λ r. onward r (after_slots slots jobs job)) (sym slots-here.read))
-
-    abbrev parts : Parts
-    parts = record { answer = answer'; slots = slots; jobs = jobs; job = job; next = next'; line = l + 5 * jobs + slots }
-
-    pub lines_read : PartsHere t parts table (next_lines slots jobs (standing t at l))
-    lines_read = record { read = sym (slots_are ∙ told (accepted answer')); within = slots-here.within }
-      where
-        told : (b : Bool)
-            → onward (if b then got table (standing t next' (l + 5 * jobs + slots)) else refused answer') (after_slots slots jobs job)
-            ≡ (if b then got (record { slots = slots; jobs = jobs; job = job; table = table }) (standing t next' (l + 5 * jobs + slots)) else refused answer')
-        told true = refl
-        told false = refl
-
--- ---- the first two lines
+-- ---- a limit
 
 -- a number that was not refused keeps its limit
 pub keeps_limit : (limit n : ℕ) (refusal answer : Answer)
@@ -86,91 +30,6 @@ keeps_limit limit n refusal answer e refuses accepts = judged (1 ≤? n) (n ≤?
     judged a true p q = leb-true n limit p
     judged true false p q = absurd (refuted q)
     judged false false p q = absurd (refuted q)
-
--- the plan's first line was read and N is within its limit; its second was and n is
-pub record LineOne (t : List ℕ) (at l slots next : ℕ) : Type 0 where
-  pub read : field number "slots=" (standing t at l) ≡ got slots (standing t next (l + 1))
-  pub fits : accepted (SlotLimit unless one_to max_slots slots) ≡ true
-
-pub record LineTwo (t : List ℕ) (at l jobs next : ℕ) : Type 0 where
-  pub read : field number "jobs=" (standing t at (l + 1)) ≡ got jobs (standing t next (l + 2))
-  pub within : next ≤ length t
-  pub fits : accepted (JobLimit unless one_to max_jobs jobs) ≡ true
-
-module _ (t : List ℕ) (at l : ℕ) (table : List ℕ) where
-  pub no_line_one : None ≡ field_at number t at (bytes "slots=") → PartsHere t (refused_parts (Form l)) table (next_plan (standing t at l))
-  unfolding next_plan
-  no_line_one e = here_refused t (Form l) table _ (form_refuses l) (rw (field_refused number "slots=" t at l 0 e))
-
-  module _ (slots second : ℕ) (e : Some (slots, second) ≡ field_at number t at (bytes "slots="))
-      (limit : Answer) (judged : limit ≡ (SlotLimit unless one_to max_slots slots)) where
-    pub over_slot_limit : accepted limit ≡ false → PartsHere t (refused_parts limit) table (next_plan (standing t at l))
-    unfolding next_plan
-    over_slot_limit f = here_refused t limit table _ f (rw ((field_got number "slots=" t at l (l + 1) (omega arith) (slots, second) e).0, ← judged, f))
-
-    pub line_one : accepted limit ≡ true → LineOne t at l slots second
-    line_one f = record { read = (field_got number "slots=" t at l (l + 1) (omega arith) (slots, second) e).0; fits = rw judged at f }
-
-  module _ (slots second : ℕ) (one : LineOne t at l slots second) where
-    pub slots_few : slots ≤ max_slots
-    unfolding accepted
-    slots_few = keeps_limit max_slots slots SlotLimit _ refl refl one.fits
-
-    pub no_line_two : None ≡ field_at number t second (bytes "jobs=") → PartsHere t (refused_parts (Form (l + 1))) table (next_plan (standing t at l))
-    unfolding next_plan
-    no_line_two e = here_refused t (Form (l + 1)) table _ (form_refuses (l + 1)) (rw (one.read, one.fits, field_refused number "jobs=" t second (l + 1) 0 e))
-
-    module _ (jobs third : ℕ) (e : Some (jobs, third) ≡ field_at number t second (bytes "jobs="))
-        (limit : Answer) (judged : limit ≡ (JobLimit unless one_to max_jobs jobs)) where
-      pub over_job_limit : accepted limit ≡ false → PartsHere t (refused_parts limit) table (next_plan (standing t at l))
-      unfolding next_plan
-      over_job_limit f = here_refused t limit table _ f (rw (one.read, one.fits, (field_got number "jobs=" t second (l + 1) (l + 2) (omega arith) (jobs, third) e).0, ← judged, f))
-
-    module _ (jobs third : ℕ) (two : LineTwo t second l jobs third) where
-      pub lines_onward : (r : Parts) → PartsHere t r table (next_lines slots jobs (standing t third (l + 2))) → PartsHere t r table (next_plan (standing t at l))
-      unfolding next_plan next_lines
-      lines_onward r h = record { read = h.read ∙ rw (one.read, one.fits, two.read, two.fits); within = h.within }
-
-pub line_two : (t : List ℕ) (second l jobs third : ℕ) → Some (jobs, third) ≡ field_at number t second (bytes "jobs=")
-    → (limit : Answer) → limit ≡ (JobLimit unless one_to max_jobs jobs) → accepted limit ≡ true → LineTwo t second l jobs third
-line_two t second l jobs third e limit judged f =
-    let n = field_got number "jobs=" t second (l + 1) (l + 2) (omega arith) (jobs, third) e in
-    record { read = n.0; within = n.1; fits = rw judged at f }
-
-pub jobs_few : (t : List ℕ) (second l jobs third : ℕ) → LineTwo t second l jobs third → jobs ≤ max_jobs
-unfolding accepted
-jobs_few t second l jobs third two = keeps_limit max_jobs jobs JobLimit _ refl refl two.fits
-
--- ---- the plan at a place, by the parts that were read
-
-abbrev plan_of : Parts → List ℕ → Plan
-plan_of r table = record { slots = r.slots; jobs = r.jobs; job = r.job; table = table }
-
-module _ (t : List ℕ) (at l : ℕ) (r : Parts) (table : List ℕ) (here : PartsHere t r table (next_plan (standing t at l))) where
-  here_not : accepted r.answer ≡ false → next_plan (standing t at l) ≡ refused r.answer
-  here_not f = sym here.read ∙ rw f
-
-  here_is : accepted r.answer ≡ true → next_plan (standing t at l) ≡ got (plan_of r table) (standing t r.next r.line)
-  here_is f = sym here.read ∙ rw f
-
-  module _ (all : numbered l ≡ true) where
-    pub from_refused : accepted r.answer ≡ false → refused_prefix r.answer ≡ plan_from t at l
-    unfolding plan_from
-    from_refused f = rw (all, here_not f)
-
-    pub from_read : accepted r.answer ≡ true
-        → record { answer = Accepted; plan = plan_of r table; next = r.next; line = r.line } ≡ plan_from t at l
-    unfolding plan_from
-    from_read f =
-        let n : length t - length (drop r.next t) ≡ r.next = omega (arith, length-drop r.next t, here.within) in
-        rw (all, here_is f, n)
-
-pub numbers_fit_lem : (l : ℕ) → numbered l ≡ true → l + 2 + 5 * max_jobs + max_slots ≤ last_line
-numbers_fit_lem l h = omega (arith, leb-true (l + (2 + 5 * max_jobs + max_slots)) last_line h)
-
-pub from_late : (t : List ℕ) (at l : ℕ) → numbered l ≡ false → refused_prefix (Form l) ≡ plan_from t at l
-unfolding plan_from
-from_late t at l f = rw f
 
 -- from the start of the text on, every line has a number
 pub from_start : (t : List ℕ) → plan_from t 0 1 ≡ plan_prefix t
@@ -224,26 +83,3 @@ prefix_refused t r e refuses = read (next_plan (start_of t)) e
         let a : accepted r.answer ≡ true = ap (λ (x : PlanPrefix). accepted x.answer) p in
         absurd (let z : ◌≡◌ {A = ℕ} 0 1 = cc in omega arith)
     read (refused answer) p = rw p
-
--- ---- the plan and nothing after
-
-module _ (t : List ℕ) (r : Parts) (table : List ℕ) (here : PartsHere t r table (next_plan (standing t 0 1))) where
-  pub only_refused : accepted r.answer ≡ false → refused_read r.answer ≡ read_plan t
-  unfolding read_plan only_plan
-  only_refused f = rw (here_not t 0 1 r table here f)
-
-  module _ (f : accepted r.answer ≡ true) where
-    rest : length (drop r.next t) ≡ length t - r.next
-    rest = length-drop r.next t
-
-    pub only_more : r.next < length t → refused_read (Form r.line) ≡ read_plan t
-    unfolding read_plan only_plan nothing_after accepted
-    only_more h =
-        let n : (length (drop r.next t) =? 0) ≡ false = ne_eqb (length (drop r.next t)) 0 (λ z. omega (arith, rest)) in
-        rw (here_is t 0 1 r table here f, n)
-
-    pub only_plan_lem : length t ≤ r.next → record { answer = Accepted; plan = plan_of r table } ≡ read_plan t
-    unfolding read_plan only_plan nothing_after accepted
-    only_plan_lem h =
-        let n : (length (drop r.next t) =? 0) ≡ true = eq-eqb (length (drop r.next t)) 0 (omega (arith, rest)) in
-        rw (here_is t 0 1 r table here f, n)

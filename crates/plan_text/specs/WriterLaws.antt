@@ -12,10 +12,8 @@ use Rattle.std.proofs.lemmas.List.Sums.{sum_by-cons}
 use Rattle.std.proofs.Math.ListN.{length}
 use borrow.Author.Tests.{le-leb, lt-leb}
 use Rattle.words.specs.Words.{◌≤?◌}
-use Rattle.words.specs.ListLaws.{taken_from}
 use Rattle.answers.specs.declared.Refusal.{Refusal}
-use Rattle.answers.specs.Answer.{Answer, Accepted, Form, NoRoom, accepted, ◌unless◌, ◌and_then◌, first_refusal}
-use Rattle.answers.specs.AnswerLaws.{first_on, first_found}
+use Rattle.answers.specs.Answer.{Answer, Accepted, Form, accepted, ◌unless◌, ◌and_then◌, first_refusal}
 use Rattle.plan.specs.declared.Level.{Level}
 use Rattle.plan.specs.declared.Level.TheVariants.{Lo, Hi}
 use Rattle.plan.specs.declared.Job.{Job}
@@ -31,7 +29,6 @@ use Rattle.plan_text.specs.Read.{level_text, job_text, plan_text}
 use Rattle.plan_text.specs.Write.{Written, numbers_on, numbers_fit, write_answer, write_out}
 use Rattle.plan_text.specs.Parts.{numbers_in, four_digits}
 use Rattle.plan_text.specs.RoundLaws.{one_to_lem, limit_slots, limit_jobs}
-use Rattle.plan_text.specs.WriteLaws.{all_small}
 
 -- ---- the checks in the order of the code
 

@@ -1,14 +1,14 @@
 // The plan text read: its lines in their fixed order, judged line by line. Windows, budgets and the table are judged in acceptance.
-ghost use Rattle.std.specs.Prelude.{◌≡◌, ◌+◌, ◌*◌, ◌≤◌, length, replicate};
-ghost use Rattle.plan.specs.Limits.{max_slots, max_jobs};
-ghost use Rattle.lines.specs.Lines.{bytes};
-ghost use Rattle.lines.specs.Reading.{field_at, standing};
-ghost use Rattle.plan_text.specs.Read.{level_in, next_plan, read_plan};
-ghost use Rattle.plan_text.specs.Reader.{JobHere, JobsHere, SlotsHere, next_lines, last_line, numbered, refused_parts, PartsHere, refused_prefix, refused_read, plan_from, plan_prefix};
+ghost use Rattle.std.specs.Prelude.{◌≡◌, ◌+◌, ◌*◌, ◌≤◌, length};
+ghost use Rattle.lines.specs.Lines.{bytes, number, many, field};
+ghost use Rattle.lines.specs.Reading.{field_at};
+ghost use Rattle.plan_text.specs.Read.{level_in, next_job, next_plan, only_plan, start_of, read_plan};
+ghost use Rattle.plan_text.specs.Walk.{Walked, stands, field_in, read_into, last_line, plan_lines};
+ghost use Rattle.plan_text.specs.Reader.{numbered, refused_prefix, whole, plan_from, plan_prefix};
 
 use super::PlanRead;
 use answers::{Answer, Refusal};
-use line_reader::number_field;
+use line_reader::LineReader;
 use plan::{Job, Level, Plan};
 
 // The lines of the largest plan, and the last line that has a number.
@@ -24,33 +24,6 @@ pub struct PlanPrefix {
     pub plan: Plan,
     pub next: usize,
     pub line: u16,
-}
-
-// The jobs and the first byte after their lines; beside a refusal the array is not used.
-#[derive(Clone, Copy)]
-struct JobsRead {
-    answer: Answer,
-    job: [Job; plan::JOBS],
-    next: usize,
-}
-
-// What the lines of the slots say, and the first byte after them; the slots stand in the table that was lent.
-#[derive(Clone, Copy)]
-struct SlotsRead {
-    answer: Answer,
-    next: usize,
-}
-
-// What the lines of a plan say but for the slots, the first byte after the last line and the number of the line there.
-// Beside a refusal only the answer is used.
-#[derive(Clone, Copy)]
-struct Parts {
-    answer: Answer,
-    slots: u16,
-    jobs: u16,
-    job: [Job; plan::JOBS],
-    next: usize,
-    line: u16,
 }
 
 #[tactic(auto, unfolding(crate::specs::Read::level_in))]
@@ -76,192 +49,110 @@ fn level_field(text: &[u8], at: usize) -> Option<(Level, usize)>
     Some((level, value.next))
 }
 
-// The job whose first line is at `at` and has the number `line`, and the first byte after its lines; or the line that is not of the form.
-#[tactic(auto, using(crate::specs::ReaderLaws::job_bad_1, crate::specs::ReaderLaws::job_bad_2, crate::specs::ReaderLaws::job_bad_3, crate::specs::ReaderLaws::job_bad_4, crate::specs::ReaderLaws::job_bad_5, crate::specs::ReaderLaws::job_got))]
-fn read_job(text: &[u8], at: usize, line: u16) -> Result<(Job, usize), u16>
-    requires { line + 5 ≤ last_line }
-    ensures { JobHere text.now at line result }
+// A walk through the lines of a text: the reader at the next line, and that line's number.
+// A refused walk is not used again.
+#[derive(Drop)]
+struct Walk<'a> {
+    reader: LineReader<'a>,
+    line: u16,
+}
+
+// The number on the next line, which has the key.
+#[tactic(auto, using(crate::specs::WalkLaws::field_taken, crate::specs::WalkLaws::field_missing))]
+fn next_number<'a>(walk: &mut Walk<'a>, key: &[u8]) -> Result<u16, Refusal>
+    requires { walk.old.line + 1 ≤ last_line }
+    ensures { Walked 1 walk.old walk.new result (field_in number key.now (stands walk.old)) }
 {
-    let Some((level, at)) = level_field(text, at) else {
-        return Err(line);
-    };
-    let Some((release, at)) = number_field(text, at, b"release=") else {
-        return Err(line + 1);
-    };
-    let Some((deadline, at)) = number_field(text, at, b"deadline=") else {
-        return Err(line + 2);
-    };
-    let Some((lo, at)) = number_field(text, at, b"lo=") else {
-        return Err(line + 3);
-    };
-    let Some((hi, at)) = number_field(text, at, b"hi=") else {
-        return Err(line + 4);
-    };
-    let job = Job {
+    let (number, next) = line_reader::number_field(walk.reader.text, walk.reader.at, key).ok_or(
+        Refusal::Form(walk.line),
+    )?;
+    walk.reader.at = next;
+    walk.line += 1;
+    Ok(number)
+}
+
+// The level on the next line.
+#[tactic(auto, using(crate::specs::WalkLaws::field_taken, crate::specs::WalkLaws::field_missing))]
+fn next_level<'a>(walk: &mut Walk<'a>) -> Result<Level, Refusal>
+    requires { walk.old.line + 1 ≤ last_line }
+    ensures { Walked 1 walk.old walk.new result (field_in level_in (bytes "level=") (stands walk.old)) }
+{
+    let (level, next) = level_field(walk.reader.text, walk.reader.at).ok_or(Refusal::Form(
+        walk.line,
+    ))?;
+    walk.reader.at = next;
+    walk.line += 1;
+    Ok(level)
+}
+
+// The job of the next five lines.
+fn next_job<'a>(walk: &mut Walk<'a>) -> Result<Job, Refusal>
+    requires { walk.old.line + 5 ≤ last_line }
+    ensures { Walked 5 walk.old walk.new result (next_job (stands walk.old)) }
+{
+    let level = next_level(walk)?;
+    let release = next_number(walk, b"release=")?;
+    let deadline = next_number(walk, b"deadline=")?;
+    let lo = next_number(walk, b"lo=")?;
+    let hi = next_number(walk, b"hi=")?;
+    Ok(Job {
         level,
         release,
         deadline,
         lo,
         hi,
-    };
-    Ok((job, at))
+    })
 }
 
-// The jobs, the first of whose lines is at `at` and has the number `line`.
-#[tactic(auto, using(lines::specs::ManyLaws::filling_at_starts, lines::specs::ManyLaws::filling_at_on, lines::specs::ManyLaws::filling_at_stops, lines::specs::ManyLaws::filling_at_ends, crate::specs::ReaderLaws::form_refuses, crate::specs::ReaderLaws::job_is, crate::specs::ReaderLaws::job_is_not))]
-fn read_jobs(text: &[u8], at: usize, count: usize, line: u16) -> JobsRead
-    requires count_le_max_jobs { count ≤ max_jobs }
-    requires count_bound { line + 5 * count ≤ last_line }
-    requires at_in_bounds { at ≤ length text.now }
-    ensures { JobsHere text.now at line count result }
+// The next jobs, as many as there is room for.
+fn next_jobs<'a>(walk: &mut Walk<'a>, jobs: &mut [Job]) -> Result<(), Refusal>
+    requires { walk.old.line + 5 * length jobs.old ≤ last_line }
+    ensures { Walked (5 * length jobs.old) walk.old walk.new (read_into jobs.new result) (many (length jobs.old) next_job (stands walk.old)) }
 {
-    let blank = plan::blank_job();
-    let mut job = [blank; plan::JOBS];
-    let mut next = at;
-    let mut l = line;
-    let mut i = 0;
-    while i < count {
-        match read_job(text, next, l) {
-            Ok((j, after)) => {
-                job[i] = j;
-                next = after;
-            }
-            Err(bad) => {
-                return JobsRead {
-                    answer: Err(Refusal::Form(bad)),
-                    job,
-                    next: 0,
-                };
-            }
-        }
-        l += 5;
-        i += 1;
+    for job in jobs {
+        *job = next_job(walk)?;
     }
-    JobsRead {
-        answer: Ok(()),
-        job,
-        next,
-    }
+    Ok(())
 }
 
-// The slots, the first of whose lines is at `at` and has the number `line`, into the table, which is 0 on entry.
-#[tactic(auto, using(lines::specs::ManyLaws::filling_at_starts, lines::specs::ManyLaws::filling_at_on, lines::specs::ManyLaws::filling_at_stops, lines::specs::ManyLaws::filling_at_ends, crate::specs::ReaderLaws::form_refuses, crate::specs::ReaderLaws::line_each, lines::specs::ReadingLaws::field_got, lines::specs::ReadingLaws::field_refused))]
-fn read_slots(
-    text: &[u8],
-    at: usize,
-    count: usize,
-    line: u16,
-    table: &mut [u16; plan::SLOTS],
-) -> SlotsRead
-    requires count_le_max_slots { count ≤ max_slots }
-    requires count_bound { line + count ≤ last_line }
-    requires at_in_bounds { at ≤ length text.now }
-    requires table_value { table.old ≡ replicate max_slots 0 }
-    ensures { SlotsHere text.now at line count result table.new }
+// The next slots, as many as there is room for.
+fn next_slots<'a>(walk: &mut Walk<'a>, slots: &mut [u16]) -> Result<(), Refusal>
+    requires { walk.old.line + length slots.old ≤ last_line }
+    ensures { Walked (length slots.old) walk.old walk.new (read_into slots.new result) (many (length slots.old) (field number "slot=") (stands walk.old)) }
 {
-    let mut next = at;
-    let mut l = line;
-    let mut t = 0;
-    while t < count {
-        let Some((entry, after)) = number_field(text, next, b"slot=") else {
-            return SlotsRead {
-                answer: Err(Refusal::Form(l)),
-                next: 0,
-            };
-        };
-        table[t] = entry;
-        next = after;
-        l += 1;
-        t += 1;
+    for slot in slots {
+        *slot = next_number(walk, b"slot=")?;
     }
-    SlotsRead {
-        answer: Ok(()),
-        next,
-    }
+    Ok(())
 }
 
-fn no_parts(answer: Answer) -> Parts
-    ensures { result ≡ refused_parts answer }
+// The plan on the next lines, whatever follows it.
+fn next_plan<'a>(walk: &mut Walk<'a>) -> Result<Plan, Refusal>
+    requires { walk.old.line + plan_lines ≤ last_line }
+    ensures { Walked plan_lines walk.old walk.new result (next_plan (stands walk.old)) }
 {
-    let blank = plan::blank_job();
-    let job = [blank; plan::JOBS];
-    Parts {
-        answer,
-        slots: 0,
-        jobs: 0,
-        job,
-        next: 0,
-        line: 0,
-    }
-}
-
-// The lines of the jobs and of the slots, the first of which is at `at` and has the number `line`.
-#[tactic(auto, using(crate::specs::PrefixLaws::lines_no_jobs, crate::specs::PrefixLaws::lines_read))]
-fn read_lines(
-    text: &[u8],
-    at: usize,
-    line: u16,
-    slots: u16,
-    jobs: u16,
-    table: &mut [u16; plan::SLOTS],
-) -> Parts
-    requires slots_le_max_slots { slots ≤ max_slots }
-    requires jobs_le_max_jobs { jobs ≤ max_jobs }
-    requires max_slots_bound { line + 5 * max_jobs + max_slots ≤ last_line }
-    requires at_in_bounds { at ≤ length text.now }
-    requires table_value { table.old ≡ replicate max_slots 0 }
-    ensures { PartsHere text.now result table.new (next_lines slots jobs (standing text.now at line)) }
-{
-    let j = read_jobs(text, at, jobs as usize, line);
-    let job = j.job;
-    let answer = j.answer;
-    if answer.is_err() {
-        return no_parts(answer);
-    }
-    let first = line + 5 * jobs;
-    let s = read_slots(text, j.next, slots as usize, first, table);
-    let answer = s.answer;
-    Parts {
-        answer,
+    let slots = next_number(walk, b"slots=")?;
+    plan::slot_limit(slots)?;
+    let jobs = next_number(walk, b"jobs=")?;
+    plan::job_limit(jobs)?;
+    let mut job = [plan::blank_job(); plan::JOBS];
+    next_jobs(walk, &mut job[..usize::from(jobs)])?;
+    let mut table = [0; plan::SLOTS];
+    next_slots(walk, &mut table[..usize::from(slots)])?;
+    Ok(Plan {
         slots,
         jobs,
         job,
-        next: s.next,
-        line: first + slots,
-    }
+        table,
+    })
 }
 
-// The lines of a plan, the first of which is at `at` and has the number `line`; the slots go into the table, which is 0 on entry.
-#[tactic(auto, using(crate::specs::PrefixLaws::no_line_one, crate::specs::PrefixLaws::over_slot_limit, crate::specs::PrefixLaws::line_one, crate::specs::PrefixLaws::slots_few, crate::specs::PrefixLaws::no_line_two, crate::specs::PrefixLaws::over_job_limit, crate::specs::PrefixLaws::line_two, crate::specs::PrefixLaws::jobs_few, crate::specs::PrefixLaws::lines_onward))]
-fn read_parts(text: &[u8], at: usize, line: u16, table: &mut [u16; plan::SLOTS]) -> Parts
-    requires max_slots_bound { line + 2 + 5 * max_jobs + max_slots ≤ last_line }
-    requires table_value { table.old ≡ replicate max_slots 0 }
-    ensures { PartsHere text.now result table.new (next_plan (standing text.now at line)) }
+fn refused(refusal: Refusal) -> PlanPrefix
+    ensures { result ≡ refused_prefix (Err refusal) }
 {
-    let Some((slots, second)) = number_field(text, at, b"slots=") else {
-        return no_parts(Err(Refusal::Form(line)));
-    };
-    let limit = plan::slot_limit(slots);
-    if limit.is_err() {
-        return no_parts(limit);
-    }
-    let Some((jobs, third)) = number_field(text, second, b"jobs=") else {
-        return no_parts(Err(Refusal::Form(line + 1)));
-    };
-    let limit = plan::job_limit(jobs);
-    if limit.is_err() {
-        return no_parts(limit);
-    }
-    read_lines(text, third, line + 2, slots, jobs, table)
-}
-
-fn refused(answer: Answer) -> PlanPrefix
-    ensures { result ≡ refused_prefix answer }
-{
-    let blank = plan::blank_plan();
     PlanPrefix {
-        answer,
-        plan: blank,
+        answer: Err(refusal),
+        plan: plan::blank_plan(),
         next: 0,
         line: 0,
     }
@@ -271,35 +162,32 @@ fn refused(answer: Answer) -> PlanPrefix
 fn has_numbers(line: u16) -> bool
     ensures { result ≡ numbered line }
 {
-    plan::wide(line) + PLAN_LINES <= LAST_LINE
+    usize::from(line) + PLAN_LINES <= LAST_LINE
 }
 
 // The plan at a place of the text, which is the start of that line, whatever follows the plan. Every place and line is answered:
 // past the text's end the line is missing, and where its lines would pass the last number the plan is refused at its first.
-#[tactic(auto, using(crate::specs::PrefixLaws::numbers_fit_lem, crate::specs::PrefixLaws::from_late, crate::specs::PrefixLaws::from_refused, crate::specs::PrefixLaws::from_read))]
 pub fn plan_from(text: &[u8], at: usize, line: u16) -> PlanPrefix
     ensures { result ≡ plan_from text.now at line }
 {
     if !has_numbers(line) {
-        return refused(Err(Refusal::Form(line)));
+        return refused(Refusal::Form(line));
     }
-    let mut table = [0u16; plan::SLOTS];
-    let p = read_parts(text, at, line, &mut table);
-    let answer = p.answer;
-    if answer.is_err() {
-        return refused(answer);
-    }
-    let job = p.job;
-    PlanPrefix {
-        answer: Ok(()),
-        plan: Plan {
-            slots: p.slots,
-            jobs: p.jobs,
-            job,
-            table,
+    let mut walk = Walk {
+        reader: LineReader {
+            text,
+            at: at.min(text.len()),
         },
-        next: p.next,
-        line: p.line,
+        line,
+    };
+    match next_plan(&mut walk) {
+        Ok(plan) => PlanPrefix {
+            answer: Ok(()),
+            plan,
+            next: walk.reader.at,
+            line: walk.line,
+        },
+        Err(refusal) => refused(refusal),
     }
 }
 
@@ -311,38 +199,33 @@ pub fn plan_prefix(text: &[u8]) -> PlanPrefix
     plan_from(text, 0, 1)
 }
 
-fn no_plan(answer: Answer) -> PlanRead
-    ensures { result ≡ refused_read answer }
+// The plan that the text is, with nothing after it; or the refusal.
+fn only_plan(text: &[u8]) -> Result<Plan, Refusal>
+    ensures { whole result ≡ read_plan text.now }
 {
-    let blank = plan::blank_plan();
-    PlanRead {
-        answer,
-        plan: blank,
+    let mut walk = Walk {
+        reader: LineReader { text, at: 0 },
+        line: 1,
+    };
+    let plan = next_plan(&mut walk)?;
+    if walk.reader.at < text.len() {
+        return Err(Refusal::Form(walk.line));
     }
+    Ok(plan)
 }
 
 // The plan that the text is, with nothing after it.
-#[tactic(auto, using(crate::specs::PrefixLaws::only_refused, crate::specs::PrefixLaws::only_more, crate::specs::PrefixLaws::only_plan_lem))]
 pub fn read_plan(text: &[u8]) -> PlanRead
     ensures { result ≡ read_plan text.now }
 {
-    let mut table = [0u16; plan::SLOTS];
-    let p = read_parts(text, 0, 1, &mut table);
-    let answer = p.answer;
-    if answer.is_err() {
-        return no_plan(answer);
-    }
-    if p.next < text.len() {
-        return no_plan(Err(Refusal::Form(p.line)));
-    }
-    let job = p.job;
-    PlanRead {
-        answer: Ok(()),
-        plan: Plan {
-            slots: p.slots,
-            jobs: p.jobs,
-            job,
-            table,
+    match only_plan(text) {
+        Ok(plan) => PlanRead {
+            answer: Ok(()),
+            plan,
+        },
+        Err(refusal) => PlanRead {
+            answer: Err(refusal),
+            plan: plan::blank_plan(),
         },
     }
 }

@@ -1,5 +1,4 @@
 -- `writer::put_plan`: the two first lines, the jobs and the slots, one after the other, each with room.
-use Rattle.std.proofs.Common.{arith}
 use mathlib.Core.List.{◌++◌, flat_map}
 use Rattle.plan.specs.Plan.{jobs_of, slots_of, blank_job}
 use Rattle.lines.specs.Lines.{number_line}
