@@ -1,5 +1,5 @@
 -- Where a walk through the lines of a text stands, and what it says is read there.
-use Rattle.std.specs.Prelude.{ℕ, ◌+◌, ◌*◌, ◌≤◌, ◌≡◌, List, length, Option, Result, Ok, Err}
+use Rattle.std.specs.Prelude.{ℕ, ◌+◌, ◌*◌, ◌≤◌, ◌≡◌, List, length, Option, Some, None, Result, Ok, Err}
 use Rattle.answers.specs.declared.Refusal.{Refusal}
 use Rattle.plan.specs.Limits.{max_slots, max_jobs}
 use Rattle.lines.specs.Lines.{Read, got, refused, Cursor, Reader, or_form, value_in}
@@ -31,6 +31,11 @@ read_so walk (Err refusal) = refused (Err refusal)
 abbrev pub read_into : {A : Type 0} → List A → Result Unit Refusal → Result (List A) Refusal
 read_into xs (Ok u) = Ok xs
 read_into xs (Err refusal) = Err refusal
+
+-- the walk goes past what was seen; where nothing was it stays, and its line is refused
+abbrev pub Past : {A : Type 0} → Walk → Walk → Option (A × ℕ) → Result A Refusal → Type 0
+Past before after (Some seen) r = (r ≡ Ok seen.0) × (after ≡ record { reader = record { text = before.reader.text; at = seen.1 }; line = before.line + 1 })
+Past before after None r = (r ≡ Err (Refusal.Form before.line)) × (after ≡ before)
 
 -- from `before` to `after` the walk read q, in the same text and over no more than `lines` lines
 pub record Walked {A : Type 0} (lines : ℕ) (before after : Walk) (r : Result A Refusal) (q : Read A) : Type 0 where

@@ -17,24 +17,19 @@ use Rattle.lines.specs.ManyLaws.{Filling, filling_starts, filling_on, filling_st
 use Rattle.lines.specs.Reading.{standing, field_at}
 use Rattle.lines.specs.ReadingLaws.{field_got, field_refused}
 use Rattle.plan_text.specs.declared.reader.Walk.{Walk}
-use Rattle.plan_text.specs.Walk.{stands, field_in, read_so, read_into, plan_lines, Walked}
+use Rattle.plan_text.specs.Walk.{stands, field_in, read_so, read_into, plan_lines, Past, Walked}
 use Rattle.plan_text.specs.Read.{next_plan, start_of, only_plan, read_plan}
 use Rattle.plan_text.specs.Reader.{numbered, refused_prefix, whole, plan_from}
 
--- past a line
-abbrev pub past : Walk → ℕ → Walk
-past w next = record { reader = record { text = w.reader.text; at = next }; line = w.line + 1 }
-
-module _ {A : Type 0} (meaning : List ℕ → Option A) (w : Walk) (key : List ℕ) where
-  pub field_taken : (v : A × ℕ) → Some v ≡ field_at meaning w.reader.text.now w.reader.at key → Walked 1 w (past w v.1) (Ok v.0) (field_in meaning key (stands w))
-  field_taken v e =
-      let f = field_got meaning key w.reader.text.now w.reader.at w.line (w.line + 1) (omega arith) v e in
-      record { read = sym f.0; text = refl; within = λ h. f.1; few = omega arith }
-
-  pub field_missing : None ≡ field_at meaning w.reader.text.now w.reader.at key → Walked 1 w w (Err (Refusal.Form w.line)) (field_in meaning key (stands w))
-  field_missing e =
-      let f = field_refused meaning key w.reader.text.now w.reader.at w.line 0 e in
-      record { read = sym f; text = refl; within = λ h. h; few = omega arith }
+-- a field that was seen or missing
+pub field_past : {A : Type 0} (meaning : List ℕ → Option A) (key : List ℕ) (w w₁ : Walk) (r : Result A Refusal) (seen : Option (A × ℕ)) → seen ≡ field_at meaning w.reader.text.now w.reader.at key
+    → Past w w₁ seen r → Walked 1 w w₁ r (field_in meaning key (stands w))
+field_past meaning key w w₁ r (Some v) e p =
+    let f = field_got meaning key w.reader.text.now w.reader.at w.line (w.line + 1) (omega arith) v e in
+    rw (p.0, p.1) (record { read = sym f.0; text = refl; within = λ h. f.1; few = omega arith })
+field_past meaning key w w₁ r None e p =
+    let f = field_refused meaning key w.reader.text.now w.reader.at w.line 0 e in
+    rw (p.0, p.1) (record { read = sym f; text = refl; within = λ h. h; few = omega arith })
 
 -- one thing read after another
 module _ {A B : Type 0} {q : Read A} {w₀ w₁ : Walk} (n : ℕ) where

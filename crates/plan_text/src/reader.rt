@@ -3,7 +3,7 @@ ghost use Rattle.std.specs.Prelude.{◌≡◌, ◌+◌, ◌*◌, ◌≤◌, leng
 ghost use Rattle.lines.specs.Lines.{bytes, number, many, field};
 ghost use Rattle.lines.specs.Reading.{field_at};
 ghost use Rattle.plan_text.specs.Read.{level_in, next_job, next_plan, only_plan, start_of, read_plan};
-ghost use Rattle.plan_text.specs.Walk.{Walked, stands, field_in, read_into, last_line, plan_lines};
+ghost use Rattle.plan_text.specs.Walk.{Walked, Past, stands, field_in, read_into, last_line, plan_lines};
 ghost use Rattle.plan_text.specs.Reader.{numbered, refused_prefix, whole, plan_from, plan_prefix};
 
 use super::PlanRead;
@@ -57,36 +57,41 @@ struct Walk<'a> {
     line: u16,
 }
 
+// What was seen on the next line, and the walk goes past it; or the refusal of the line where nothing was.
+fn past<T>(walk: &mut Walk, seen: Option<(T, usize)>) -> Result<T, Refusal>
+    requires { walk.old.line + 1 ≤ last_line }
+    ensures { Past walk.old walk.new seen result }
+{
+    match seen {
+        Some((value, next)) => {
+            walk.reader.at = next;
+            walk.line += 1;
+            Ok(value)
+        }
+        None => Err(Refusal::Form(walk.line)),
+    }
+}
+
 // The number on the next line, which has the key.
-#[tactic(auto, using(crate::specs::WalkLaws::field_taken, crate::specs::WalkLaws::field_missing))]
-fn next_number<'a>(walk: &mut Walk<'a>, key: &[u8]) -> Result<u16, Refusal>
+fn next_number(walk: &mut Walk, key: &[u8]) -> Result<u16, Refusal>
     requires { walk.old.line + 1 ≤ last_line }
     ensures { Walked 1 walk.old walk.new result (field_in number key.now (stands walk.old)) }
 {
-    let (number, next) = line_reader::number_field(walk.reader.text, walk.reader.at, key).ok_or(
-        Refusal::Form(walk.line),
-    )?;
-    walk.reader.at = next;
-    walk.line += 1;
-    Ok(number)
+    let seen = line_reader::number_field(walk.reader.text, walk.reader.at, key);
+    past(walk, seen)
 }
 
 // The level on the next line.
-#[tactic(auto, using(crate::specs::WalkLaws::field_taken, crate::specs::WalkLaws::field_missing))]
-fn next_level<'a>(walk: &mut Walk<'a>) -> Result<Level, Refusal>
+fn next_level(walk: &mut Walk) -> Result<Level, Refusal>
     requires { walk.old.line + 1 ≤ last_line }
     ensures { Walked 1 walk.old walk.new result (field_in level_in (bytes "level=") (stands walk.old)) }
 {
-    let (level, next) = level_field(walk.reader.text, walk.reader.at).ok_or(Refusal::Form(
-        walk.line,
-    ))?;
-    walk.reader.at = next;
-    walk.line += 1;
-    Ok(level)
+    let seen = level_field(walk.reader.text, walk.reader.at);
+    past(walk, seen)
 }
 
 // The job of the next five lines.
-fn next_job<'a>(walk: &mut Walk<'a>) -> Result<Job, Refusal>
+fn next_job(walk: &mut Walk) -> Result<Job, Refusal>
     requires { walk.old.line + 5 ≤ last_line }
     ensures { Walked 5 walk.old walk.new result (next_job (stands walk.old)) }
 {
@@ -105,7 +110,7 @@ fn next_job<'a>(walk: &mut Walk<'a>) -> Result<Job, Refusal>
 }
 
 // The next jobs, as many as there is room for.
-fn next_jobs<'a>(walk: &mut Walk<'a>, jobs: &mut [Job]) -> Result<(), Refusal>
+fn next_jobs(walk: &mut Walk, jobs: &mut [Job]) -> Result<(), Refusal>
     requires { walk.old.line + 5 * length jobs.old ≤ last_line }
     ensures { Walked (5 * length jobs.old) walk.old walk.new (read_into jobs.new result) (many (length jobs.old) next_job (stands walk.old)) }
 {
@@ -116,7 +121,7 @@ fn next_jobs<'a>(walk: &mut Walk<'a>, jobs: &mut [Job]) -> Result<(), Refusal>
 }
 
 // The next slots, as many as there is room for.
-fn next_slots<'a>(walk: &mut Walk<'a>, slots: &mut [u16]) -> Result<(), Refusal>
+fn next_slots(walk: &mut Walk, slots: &mut [u16]) -> Result<(), Refusal>
     requires { walk.old.line + length slots.old ≤ last_line }
     ensures { Walked (length slots.old) walk.old walk.new (read_into slots.new result) (many (length slots.old) (field number "slot=") (stands walk.old)) }
 {
@@ -127,7 +132,7 @@ fn next_slots<'a>(walk: &mut Walk<'a>, slots: &mut [u16]) -> Result<(), Refusal>
 }
 
 // The plan on the next lines, whatever follows it.
-fn next_plan<'a>(walk: &mut Walk<'a>) -> Result<Plan, Refusal>
+fn next_plan(walk: &mut Walk) -> Result<Plan, Refusal>
     requires { walk.old.line + plan_lines ≤ last_line }
     ensures { Walked plan_lines walk.old walk.new result (next_plan (stands walk.old)) }
 {
