@@ -1,6 +1,6 @@
 -- The run program as a console that is handed its input piece by piece: what it prints for the text in hand, and how it goes on.
 -- That all it prints is the program's whole output, whatever the pieces, is in PiecesLaws.
-use Rattle.std.specs.Prelude.{ℕ, zero, suc, ◌+◌, ◌*◌, Bool, true, false, ◌||◌, List, [], ◌∷◌, ◌++◌, length, drop, if◌then◌else◌}
+use Rattle.std.specs.Prelude.{ℕ, zero, suc, ◌+◌, ◌*◌, Bool, true, false, ◌||◌, List, [], ◌∷◌, ◌++◌, length, drop, if◌then◌else◌, Option, None, Some}
 use Rattle.words.specs.Words.{◌≤?◌, ◌<?◌, ◌=?◌}
 use Rattle.answers.specs.Answer.{Answer, Form, accepted}
 use Rattle.lines.specs.Lines.{line_length}
@@ -17,7 +17,7 @@ use Rattle.console.specs.declared.run.Stage.{Stage}
 use Rattle.console.specs.declared.run.Stage.TheVariants.{Reading, Running, Stopped}
 use Rattle.console.specs.declared.run.Console.{Console}
 use Rattle.console.specs.declared.run.Turn.{Turn}
-use Rattle.console.specs.declared.reports.ReportAt.{ReportAt}
+use Rattle.executive.specs.declared.Report.{Report}
 use Rattle.console.specs.Print.{refused_line}
 use Rattle.console.specs.Run.{step_line, job_lines}
 use Rattle.console.specs.Reports.{report_at}
@@ -82,9 +82,9 @@ stepped_event c next stepped =
     then record { printed = step_line c.run; console = record { stage = Running; run = stepped.run; line = line_after c.line }; used = next; waiting = false }
     else refuses c stepped.answer
 
-abbrev pub report_event : Console → ReportAt → Event
-report_event c (ReportAt.Got report next) = stepped_event c next (step c.run report)
-report_event c ReportAt.Bad = refuses c (Form c.line)
+abbrev pub report_event : Console → Option (Report × ℕ) → Event
+report_event c (Some (report, next)) = stepped_event c next (step c.run report)
+report_event c None = refuses c (Form c.line)
 
 unfoldable pub line_event : Console → List ℕ → Event
 line_event c s = if line_ready s then report_event c (report_at s) else waits c
@@ -122,11 +122,12 @@ is_stopped Stopped = true
 abbrev pub run_room : ℕ
 run_room = max_jobs * longest
 
-abbrev pub turn_of : Event → Turn
-turn_of e = record { console = e.console; used = e.used; printed = length e.printed; waiting = e.waiting }
+-- a turn for an event; none where the console waits
+abbrev pub turn_of : Event → Option Turn
+turn_of e = if e.waiting then None else Some (record { console = e.console; used = e.used; printed = length e.printed })
 
 -- without room nothing happens: the console waits, and the output stays as it is
-unfoldable pub next_turn : Console → List ℕ → List ℕ → Turn
+unfoldable pub next_turn : Console → List ℕ → List ℕ → Option Turn
 next_turn c s d = turn_of (if run_room ≤? length d then event c s else waits c)
 
 unfoldable pub next_out : Console → List ℕ → List ℕ → List ℕ

@@ -1,161 +1,114 @@
--- What the functions that read a report answer, and their laws: each return of the code by its law, and that the first line is the definitions' field.
-use Prim.Native.Nat.{ℕ, suc, ◌+◌, ◌≤◌, ◌<◌}
-use Rattle.std.proofs.Common.{add-one, arith, ap, ◌∙◌, length-drop, drop_of_length-le, take_all}
-use Rattle.std.proofs.Math.Path.{◌≡◌, refl, sym}
-use Rattle.std.specs.Prelude.{true, false, List, [], ◌∷◌, get_or, take, drop}
-use Rattle.std.specs.Prelude.{Option, None, Some}
-use Rattle.std.proofs.Math.ListN.{length}
-use Rattle.std.proofs.Math.Seq.{drop-cons}
-use borrow.Author.Tests.{eq-eqb, ne_eqb}
+-- The report on the first line of a text, and its laws: it is the definitions' field, and its line is closed.
+use Rattle.std.specs.Prelude.{ℕ, suc, ◌+◌, ◌-◌, ◌≤◌, ◌≡◌, refl, false, List, [], ◌∷◌, length, get_or, take, drop, Option, Some, None, option_map, ◌==◌, position, option_and_then}
+use Rattle.std.specs.List.{position_or_len}
+use Rattle.std.proofs.Common.{add-one, arith, ap, sym, ◌∙◌, drop_of_length-le, take_all, length-drop}
+use borrow.Author.Tests.{lt-ltb, le-ltb, ne_eqb}
+use Rattle.std.proofs.lemmas.Option.{same_Some}
+use Rattle.entries.specs.declared.Kind.{Kind}
 use Rattle.answers.specs.Answer.{Form}
 use Rattle.words.specs.Words.{◌=?◌}
-use Rattle.words.specs.Cases.{by_test}
-use Rattle.entries.specs.declared.Kind.{Kind}
-use Rattle.entries.specs.declared.Kind.TheVariants.{End, More}
+use Rattle.words.specs.Cases.{by_less, by_test}
 use Rattle.executive.specs.declared.Report.{Report}
-use Rattle.lines.specs.declared.reading.ValueAt.{ValueAt}
 use Rattle.lines.specs.Lines.{bytes, comma, same_bytes, number, got, refused, line_length, or_form, value_in, field}
-use Rattle.lines.specs.Reading.{value_at}
-use Rattle.lines.specs.ReadingLaws.{value_there, value_none, value_within}
+use Rattle.lines.specs.Reading.{field_at}
+use Rattle.lines.specs.ReadingLaws.{same_length, value_within}
 use Rattle.lines.specs.RoundLaws.{cursor}
-use Rattle.console.specs.declared.reports.KindName.{KindName}
-use Rattle.console.specs.declared.reports.ReportName.{ReportName}
-use Rattle.console.specs.declared.reports.ReportAt.{ReportAt}
 use Rattle.console.specs.Run.{kind_in, before_comma, report, report_in}
 
-abbrev pub kind_read : Option Kind → KindName
-kind_read (Some kind) = KindName.Is kind
-kind_read None = KindName.Not
-
-abbrev pub report_read : Option Report → ReportName
-report_read (Some report) = ReportName.Is report
-report_read None = ReportName.Not
-
--- a report and the place of the line after it
-abbrev pub report_then : ℕ → ReportName → ReportAt
-report_then next (ReportName.Is report) = ReportAt.Got report next
-report_then next ReportName.Not = ReportAt.Bad
-
--- the report on the first line
-unfoldable pub report_at : List ℕ → ReportAt
-report_at text = report_then (suc (line_length text)) (report_read (value_in report_in (bytes "report=") text))
-
--- ---- a kind
-
-module _ (s : List ℕ) where
-  pub kind_end : same_bytes s (bytes "end") ≡ true → KindName.Is End ≡ kind_read (kind_in s)
-  unfolding kind_in
-  kind_end e = rw e
-
-  module _ (e : same_bytes s (bytes "end") ≡ false) where
-    pub kind_more : same_bytes s (bytes "more") ≡ true → KindName.Is More ≡ kind_read (kind_in s)
-    unfolding kind_in
-    kind_more f = rw (e, f)
-
-    module _ (f : same_bytes s (bytes "more") ≡ false) where
-      pub kind_none : same_bytes s (bytes "none") ≡ true → KindName.Is Kind.None ≡ kind_read (kind_in s)
-      unfolding kind_in
-      kind_none g = rw (e, f, g)
-
-      pub kind_not : same_bytes s (bytes "none") ≡ false → KindName.Not ≡ kind_read (kind_in s)
-      unfolding kind_in
-      kind_not g = rw (e, f, g)
+-- the report on the first line, and the place of the line after it
+abbrev pub report_at : List ℕ → Option (Report × ℕ)
+report_at text = field_at report_in text 0 (bytes "report=")
 
 -- ---- the comma
 
-module _ (t : List ℕ) (i : ℕ) where
-  pub comma_hit : i < length t → get_or t i 0 ≡ 44 → before_comma (drop i t) ≡ 0
-  unfolding before_comma
-  comma_hit h e = rw (drop-cons t i 0 h, eq-eqb _ _ e)
+-- a kind has three letters or four
+pub kind_none : (s : List ℕ) → (length s ≡ 3 → ⊥) → (length s ≡ 4 → ⊥) → None ≡ kind_in s
+unfolding kind_in
+kind_none s three four = rw (sym (same_length s (bytes "end") three), sym (same_length s (bytes "more") four), sym (same_length s (bytes "none") four))
 
-  pub comma_miss : i < length t → (get_or t i 0 ≡ 44 → ⊥) → before_comma (drop i t) ≡ suc (before_comma (drop (i + 1) t))
-  unfolding before_comma
-  comma_miss h e = rw (add-one, drop-cons t i 0 h, ne_eqb _ _ e)
+-- another first byte, another word
+other_first : (s : List ℕ) (b : ℕ) (t : List ℕ) → (get_or s 0 0 ≡ b → ⊥) → same_bytes s (b ∷ t) ≡ false
+unfolding same_bytes
+other_first [] b t h = refl
+other_first (a ∷ s) b t h = rw (ne_eqb a b h)
 
-  pub comma_out : length t ≤ i → before_comma (drop i t) ≡ 0
-  unfolding before_comma
-  comma_out h = rw (drop_of_length-le t h)
+pub kind_three : (s : List ℕ) → length s ≡ 3 → (get_or s 0 0 ≡ 101 → ⊥) → None ≡ kind_in s
+unfolding kind_in
+kind_three s l e = rw (other_first s 101 _ e, sym (same_length s (bytes "more") (λ h. omega arith)), sym (same_length s (bytes "none") (λ h. omega arith)))
+
+pub kind_four : (s : List ℕ) → length s ≡ 4 → (get_or s 0 0 ≡ 109 → ⊥) → (get_or s 0 0 ≡ 110 → ⊥) → None ≡ kind_in s
+unfolding kind_in
+kind_four s l m n = rw (sym (same_length s (bytes "end") (λ h. omega arith)), other_first s 109 _ m, other_first s 110 _ n)
+
+comma_or_len : (s : List ℕ) → before_comma s ≡ position_or_len (λ (b : ℕ). b == 44) s
+unfolding before_comma
+comma_or_len [] = refl
+comma_or_len (b ∷ s) = by_test (b =? comma) (λ e. rw e) (λ e. rw (e, comma_or_len s) (omega arith))
 
 pub comma_within : (s : List ℕ) → before_comma s ≤ length s
 unfolding before_comma
 comma_within [] = omega arith
 comma_within (b ∷ s) = by_test (b =? comma) (λ e. rw e (omega arith)) (λ e. rw e (omega (arith, comma_within s)))
 
--- ---- a report
+-- all that is from a place on
+pub rest_after : (k : ℕ) (s : List ℕ) → take (length s - k) (drop k s) ≡ drop k s
+rest_after k s = take_all (length s - k) (drop k s) (omega (arith, length-drop k s))
 
--- all that is after a place
-pub part_after : (s : List ℕ) (k : ℕ) → take (length s) (drop (k + 1) s) ≡ drop (suc k) s
-part_after s k = rw add-one (take_all (length s) (drop (suc k) s) (omega (arith, length-drop (suc k) s)))
+-- a report read: its comma is found, then its slot is a number, then its kind is one
+abbrev pub from_comma : List ℕ → ℕ → Option Report
+from_comma s k = option_and_then (λ (slot : ℕ). option_map (λ (kind : Kind). record { slot = slot; kind = kind }) (kind_in (drop (k + 1) s))) (number (take k s))
 
-module _ (s v : List ℕ) (k : ℕ) (comes : k ≡ before_comma s) (before : v ≡ take k s) (m : Option ℕ) (slot : m ≡ number v) where
-  pub report_no_slot : m ≡ None → ReportName.Not ≡ report_read (report_in s)
-  unfolding report_in
-  report_no_slot e = pick (number (take (before_comma s) s)) (rw (← comes, ← before) (sym slot ∙ e))
-    where
-      pick : (o : Option ℕ) → o ≡ None → ReportName.Not ≡ report_read (report o (kind_in (drop (suc (before_comma s)) s)))
-      pick None e = refl
-      pick (Some n) e = absurd (let z : ◌≡◌ {A = ℕ} 0 1 = cc in omega arith)
+pub report_steps : (s : List ℕ) → report_in s ≡ option_and_then (from_comma s) (position (λ (b : ℕ). b == 44) s)
+unfolding report_in kind_in same_bytes
+report_steps s =
+    by_less (before_comma s) (length s)
+    (λ h. let place : position (λ (b : ℕ). b == 44) s ≡ Some (before_comma s) = rw (← comma_or_len s, lt-ltb (before_comma s) (length s) h) in
+    rw (place, add-one) (pick (number (take (before_comma s) s)) (kind_in (drop (suc (before_comma s)) s))))
+    (λ h. let place : position (λ (b : ℕ). b == 44) s ≡ None = rw (← comma_or_len s, le-ltb (before_comma s) (length s) h) in
+    let rest : drop (suc (before_comma s)) s ≡ [] = drop_of_length-le s {i = suc (before_comma s)} (omega arith) in
+    rw (place, rest) (kindless (number (take (before_comma s) s))))
+  where
+    pick : (o : Option ℕ) (q : Option Kind) → report o q ≡ option_and_then (λ (slot : ℕ). option_map (λ (kind : Kind). record { slot = slot; kind = kind }) q) o
+    pick None q = refl
+    pick (Some n) None = refl
+    pick (Some n) (Some kind) = refl
 
-  module _ (w : List ℕ) (after : w ≡ take (length s) (drop (k + 1) s)) (name : KindName) (kind : name ≡ kind_read (kind_in w)) where
-    rest : kind_in w ≡ kind_in (drop (suc (before_comma s)) s)
-    rest = ap kind_in (after ∙ part_after s k ∙ ap (λ (i : ℕ). drop (suc i) s) comes)
-
-    pub report_no_kind : name ≡ KindName.Not → ReportName.Not ≡ report_read (report_in s)
-    unfolding report_in
-    report_no_kind e = pick (number (take (before_comma s) s)) (kind_in (drop (suc (before_comma s)) s)) (ap kind_read (sym rest) ∙ sym kind ∙ e)
-      where
-        pick : (o : Option ℕ) (q : Option Kind) → kind_read q ≡ KindName.Not → ReportName.Not ≡ report_read (report o q)
-        pick None q e = refl
-        pick (Some n) None e = refl
-        pick (Some n) (Some x) e = absurd (let z : ◌≡◌ {A = ℕ} 0 1 = cc in omega arith)
-
-    pub report_is : (n : ℕ) (x : Kind) → m ≡ Some n → name ≡ KindName.Is x → ReportName.Is (record { slot = n; kind = x }) ≡ report_read (report_in s)
-    unfolding report_in
-    report_is n x e f =
-        pick (number (take (before_comma s) s)) (kind_in (drop (suc (before_comma s)) s)) (rw (← comes, ← before) (sym slot ∙ e)) (ap kind_read (sym rest) ∙ sym kind ∙ f)
-      where
-        pick : (o : Option ℕ) (q : Option Kind) → o ≡ Some n → kind_read q ≡ KindName.Is x → ReportName.Is (record { slot = n; kind = x }) ≡ report_read (report o q)
-        pick None q e f = absurd (let z : ◌≡◌ {A = ℕ} 0 1 = cc in omega arith)
-        pick (Some i) None e f = absurd (let z : ◌≡◌ {A = ℕ} 0 1 = cc in omega arith)
-        pick (Some i) (Some y) e f = let p : n ≡ i = cc in let q : x ≡ y = cc in rw (p, q)
+    kindless : (o : Option ℕ) → report o (kind_in []) ≡ None
+    kindless None = refl
+    kindless (Some n) = refl
 
 -- ---- the report on the first line
 
+-- a report and the place of the line after it
+abbrev with_next : List ℕ → Option Report → Option (Report × ℕ)
+with_next t o = option_map (λ (r : Report). (r, suc (line_length t))) o
+
+pub report_at_lem : (t : List ℕ) → report_at t ≡ with_next t (value_in report_in (bytes "report=") t)
+unfolding field_at
+report_at_lem t = let n : 0 + line_length t + 1 ≡ suc (line_length t) = omega arith in rw n
+
 module _ (t : List ℕ) where
-  pub report_there : (x : ValueAt) (v : List ℕ) (m : ReportName) → Some x ≡ value_at t 0 (bytes "report=")
-      → v ≡ take x.len (drop x.start t) → m ≡ report_read (report_in v) → report_then x.next m ≡ report_at t
-  unfolding report_at
-  report_there x v m e p r =
-      let w = value_there report_in t 0 (bytes "report=") x e in
-      let n : x.next ≡ suc (line_length t) = omega (arith, w.1) in
-      rw (n, r, p, w.0)
-
-  pub report_refused : None ≡ value_at t 0 (bytes "report=") → ReportAt.Bad ≡ report_at t
-  unfolding report_at
-  report_refused e = rw (value_none report_in t 0 (bytes "report=") e)
-
   -- it is the definitions' field
-  pub report_got : (r : Report) (next l : ℕ) → ReportAt.Got r next ≡ report_at t → (field report_in "report=" (cursor l t) ≡ got r (cursor (suc l) (drop next t))) × (next ≡ suc (line_length t))
-  unfolding report_at field
-  report_got r next l e = pick (value_in report_in (bytes "report=") t) e
+  pub report_got : (r : Report) (next l : ℕ) → ◌≡◌ {A = Option (Report × ℕ)} (Some (r, next)) (report_at t) → (field report_in "report=" (cursor l t) ≡ got r (cursor (suc l) (drop next t))) × (next ≡ suc (line_length t))
+  unfolding field
+  report_got r next l e = pick (value_in report_in (bytes "report=") t) (e ∙ report_at_lem t)
     where
-      pick : (o : Option Report) → ReportAt.Got r next ≡ report_then (suc (line_length t)) (report_read o) → (or_form o (cursor l t) ≡ got r (cursor (suc l) (drop next t))) × (next ≡ suc (line_length t))
-      pick (Some x) e = let p : r ≡ x = cc in let q : next ≡ suc (line_length t) = cc in (rw (p, q), q)
+      pick : (o : Option Report) → ◌≡◌ {A = Option (Report × ℕ)} (Some (r, next)) (with_next t o) → (or_form o (cursor l t) ≡ got r (cursor (suc l) (drop next t))) × (next ≡ suc (line_length t))
+      pick (Some x) e = let p : r ≡ x = ap (λ (y : Report × ℕ). y.0) (same_Some _ _ e) in let q : next ≡ suc (line_length t) = ap (λ (y : Report × ℕ). y.1) (same_Some _ _ e) in (rw (p, q), q)
       pick None e = absurd (let z : ◌≡◌ {A = ℕ} 0 1 = cc in omega arith)
 
-  pub report_bad : (l : ℕ) → ReportAt.Bad ≡ report_at t → field report_in "report=" (cursor l t) ≡ refused (Form l)
-  unfolding report_at field
-  report_bad l e = pick (value_in report_in (bytes "report=") t) e
+  pub report_bad : (l : ℕ) → None ≡ report_at t → field report_in "report=" (cursor l t) ≡ refused (Form l)
+  unfolding field
+  report_bad l e = pick (value_in report_in (bytes "report=") t) (e ∙ report_at_lem t)
     where
-      pick : (o : Option Report) → ReportAt.Bad ≡ report_then (suc (line_length t)) (report_read o) → or_form o (cursor l t) ≡ refused (Form l)
+      pick : (o : Option Report) → ◌≡◌ {A = Option (Report × ℕ)} None (with_next t o) → or_form o (cursor l t) ≡ refused (Form l)
       pick (Some x) e = absurd (let z : ◌≡◌ {A = ℕ} 0 1 = cc in omega arith)
       pick None e = refl
 
   -- the line is closed
-  pub report_within : (r : Report) (next : ℕ) → ReportAt.Got r next ≡ report_at t → next ≤ length t
-  unfolding report_at
-  report_within r next e = pick (value_in report_in (bytes "report=") t) refl e
+  pub report_within : (r : Report) (next : ℕ) → ◌≡◌ {A = Option (Report × ℕ)} (Some (r, next)) (report_at t) → next ≤ length t
+  report_within r next e = pick (value_in report_in (bytes "report=") t) refl (e ∙ report_at_lem t)
     where
-      pick : (o : Option Report) → value_in report_in (bytes "report=") t ≡ o → ReportAt.Got r next ≡ report_then (suc (line_length t)) (report_read o) → next ≤ length t
-      pick (Some x) p e = let q : next ≡ suc (line_length t) = cc in omega (arith, value_within report_in "report=" t 0 0 0 x p)
+      pick : (o : Option Report) → value_in report_in (bytes "report=") t ≡ o → ◌≡◌ {A = Option (Report × ℕ)} (Some (r, next)) (with_next t o) → next ≤ length t
+      pick (Some x) p e = let q : next ≡ suc (line_length t) = ap (λ (y : Report × ℕ). y.1) (same_Some _ _ e) in omega (arith, value_within report_in (bytes "report=") t 0 0 0 x p)
       pick None p e = absurd (let z : ◌≡◌ {A = ℕ} 0 1 = cc in omega arith)

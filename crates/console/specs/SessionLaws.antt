@@ -15,6 +15,7 @@ use Rattle.words.specs.Cases.{by_test, by_equal, both_hold}
 use Rattle.answers.specs.Answer.{Answer, Form, Incoherent, Over, accepted, ◌unless◌}
 use Rattle.answers.specs.RefusalLaws.{unless_holds, both_accept}
 use Rattle.lines.specs.Lines.{bytes, Cursor, Read, got, refused, line_length, lines_in, or_form, value_in, field}
+use Rattle.lines.specs.Reading.{field_at}
 use Rattle.lines.specs.RoundLaws.{cursor, unread, got_same}
 use Rattle.lines.specs.DecidedLaws.{lines_closed}
 use Rattle.plan.specs.declared.Plan.{Plan}
@@ -33,7 +34,6 @@ use Rattle.executive.specs.Step.{report_answer, step, next_run, refreshed, judge
 use Rattle.console.specs.declared.run.Stage.{Stage}
 use Rattle.console.specs.declared.run.Stage.TheVariants.{Reading, Running, Stopped}
 use Rattle.console.specs.declared.run.Console.{Console}
-use Rattle.console.specs.declared.reports.ReportAt.{ReportAt}
 use Rattle.console.specs.Print.{refused_line}
 use Rattle.console.specs.Check.{check_output}
 use Rattle.console.specs.Run.{report_in, end, next, report_then, reports_in, step_line, job_lines, go_on, started_output, run_output}
@@ -226,7 +226,7 @@ module _ (c : Console) (s u : List ℕ) where
       nonempty' : length (s ++ u) ≡ 0 → ⊥
       nonempty' e = nonempty (omega (arith, longer))
 
-      got_sound : (report : Report) (place : ℕ) → ReportAt.Got report place ≡ report_at s → Sound c s u (report_event c (ReportAt.Got report place))
+      got_sound : (report : Report) (place : ℕ) → ◌≡◌ {A = Option (Report × ℕ)} (Some (report, place)) (report_at s) → Sound c s u (report_event c (Some (report, place)))
       unfolding output_from
       got_sound report place e =
           let f = (report_got s report place c.line e).0 in
@@ -241,7 +241,7 @@ module _ (c : Console) (s u : List ℕ) where
           }))
           (λ h. rw h (refuses_sound _ (run_whole ∙ run_refused c.run c.line (s ++ u) nonempty' report (suc c.line) (drop place s ++ u) g h)))
 
-      bad_sound : (line_length s < length s) ⊎ (longest_report ≤ length s) → ReportAt.Bad ≡ report_at s → Sound c s u (report_event c ReportAt.Bad)
+      bad_sound : (line_length s < length s) ⊎ (longest_report ≤ length s) → None ≡ report_at s → Sound c s u (report_event c None)
       bad_sound ready e =
           let f = report_bad s c.line e in
           let g : field report_in "report=" (cursor c.line (s ++ u)) ≡ refused (Form c.line) =
@@ -255,9 +255,9 @@ module _ (c : Console) (s u : List ℕ) where
         (λ h. rw h (pick (report_at s) refl (either_ready (line_length s) (length s) h)))
         (λ h. rw h (waits_sound g))
       where
-        pick : (o : ReportAt) → report_at s ≡ o → (line_length s < length s) ⊎ (longest_report ≤ length s) → Sound c s u (report_event c o)
-        pick (ReportAt.Got report place) e ready = got_sound (λ z. ⊎_elim (λ h. omega arith) (λ h. omega arith) ready) report place (sym e)
-        pick ReportAt.Bad e ready = bad_sound (λ z. ⊎_elim (λ h. omega arith) (λ h. omega arith) ready) ready (sym e)
+        pick : (o : Option (Report × ℕ)) → report_at s ≡ o → (line_length s < length s) ⊎ (longest_report ≤ length s) → Sound c s u (report_event c o)
+        pick (Some (report, place)) e ready = got_sound (λ z. ⊎_elim (λ h. omega arith) (λ h. omega arith) ready) report place (sym e)
+        pick None e ready = bad_sound (λ z. ⊎_elim (λ h. omega arith) (λ h. omega arith) ready) ready (sym e)
 
   event_sound : Small c → Sound c s u (event c s)
   unfolding event
@@ -275,9 +275,9 @@ module _ (c : Console) (s : List ℕ) where
   pub started_goes : (used line : ℕ) (p : Plan) → (started_event c used line (start p)).waiting ≡ false
   started_goes used line p = by_test (accepted (start p).answer) (λ h. rw h) (λ h. rw h)
 
-  pub report_goes : (o : ReportAt) → (report_event c o).waiting ≡ false
-  report_goes (ReportAt.Got report place) = by_test (accepted (step c.run report).answer) (λ h. rw h) (λ h. rw h)
-  report_goes ReportAt.Bad = refl
+  pub report_goes : (o : Option (Report × ℕ)) → (report_event c o).waiting ≡ false
+  report_goes (Some (report, place)) = by_test (accepted (step c.run report).answer) (λ h. rw h) (λ h. rw h)
+  report_goes None = refl
 
   plan_ends : (plan_event c s).waiting ≡ true → unread_output (plan_prefix s) ≡ run_output s
   unfolding plan_event run_output
@@ -287,7 +287,7 @@ module _ (c : Console) (s : List ℕ) where
       (λ h. rw (h, prefix_refused s (plan_prefix s) refl h))
 
   line_ends : (line_event c s).waiting ≡ true → end_in Running c s ≡ run_from c.run c.line s
-  unfolding line_event line_ready report_at value_in
+  unfolding line_event line_ready field_at value_in
   line_ends w =
       by_equal (length s) 0
       (λ e. rw (eq-eqb (length s) 0 e) (sym (run_end c.run c.line s e)))
@@ -299,7 +299,7 @@ module _ (c : Console) (s : List ℕ) where
       not_closed : (line_length s <? length s) ≡ false
       not_closed = by_test (line_length s <? length s) (λ h. absurd (false≢true (sym (rw h at waits_line)))) (λ h. h)
 
-      unclosed : ReportAt.Bad ≡ report_at s
+      unclosed : None ≡ report_at s
       unclosed = rw not_closed
 
   pub end_sound : (event c s).waiting ≡ true → end_output c s ≡ output_from c s
@@ -362,11 +362,11 @@ module _ (c : Console) (s : List ℕ) where
       (λ f. rw (h, f) (omega arith))
       (λ f. absurd (false≢true (sym (rw (h, f) at w)))))
 
-  report_less : (length s ≡ 0 → ⊥) → (o : ReportAt) → report_at s ≡ o → todo (report_event c o).console (drop (report_event c o).used s) < length s
-  report_less nonempty (ReportAt.Got report place) e =
+  report_less : (length s ≡ 0 → ⊥) → (o : Option (Report × ℕ)) → report_at s ≡ o → todo (report_event c o).console (drop (report_event c o).used s) < length s
+  report_less nonempty (Some (report, place)) e =
       let n = (report_got s report place 0 (sym e)).1 in
       by_test (accepted (step c.run report).answer) (λ h. rw h (omega (arith, length-drop place s))) (λ h. rw h (omega arith))
-  report_less nonempty ReportAt.Bad e = omega arith
+  report_less nonempty None e = omega arith
 
   line_less : (line_event c s).waiting ≡ false → todo (line_event c s).console (drop (line_event c s).used s) < length s
   unfolding line_event line_ready

@@ -1,5 +1,6 @@
 -- What the console's functions answer: the event, written into the lent output; the step line by the choice; and their laws.
-use Rattle.std.specs.Prelude.{ℕ, ◌+◌, ◌≤◌, ◌<◌, ◌≡◌, Bool, not, List, [], drop}
+use Rattle.std.specs.Prelude.{ℕ, ◌+◌, ◌≤◌, ◌<◌, ◌≡◌, Bool, not, List, [], ◌++◌, drop, Option, None, Some, IfSome}
+use Rattle.std.specs.Array.{IsFirstChunk}
 use native.Mathlib.Omega.{arith}
 use Rattle.std.proofs.Math.Path.{refl, ap}
 use Rattle.std.proofs.Common.{sym, ◌∙◌}
@@ -27,31 +28,35 @@ use Rattle.console.specs.declared.run.Stage.{Stage}
 use Rattle.console.specs.declared.run.Stage.TheVariants.{Reading, Running, Stopped}
 use Rattle.console.specs.declared.run.Console.{Console}
 use Rattle.console.specs.declared.run.Turn.{Turn}
-use Rattle.console.specs.declared.reports.ReportAt.{ReportAt}
 use Rattle.console.specs.Print.{refused_line}
 use Rattle.console.specs.Run.{step_line, job_lines}
 use Rattle.console.specs.Reports.{report_at, report_within}
-use Rattle.console.specs.Pieces.{Piece, CountsIn, counts_in_lem, piece_counts}
+use Rattle.console.specs.Pieces.{Piece, CountsIn, counts_in_lem, chunk_put}
 use Rattle.console.specs.Printed.{step_line_from}
 use Rattle.console.specs.Console.{Event, waits, refuses, started_event, plan_event, line_ready, longest_report, line_after, stepped_event, report_event, line_event, event_in, event, unread_output, end_in, end_output, run_room, turn_of, next_turn, next_out, end_length, end_written}
 
--- the turn is the event's, and what it prints stands at the start of the output
-pub record Told (e : Event) (d : List ℕ) (r : Turn) (d' : List ℕ) : Type 0 where
+-- the turn is the event's, none where the console waits, and what the event prints stands at the start of the output
+pub record Told (e : Event) (d : List ℕ) (r : Option Turn) (d' : List ℕ) : Type 0 where
   pub turn : r ≡ turn_of e
   pub text : d' ≡ put 0 e.printed d
   pub short : length e.printed ≤ run_room
 
+-- a console that waits prints nothing
+pub told_wait : (c : Console) (d : List ℕ) → Told (waits c) d None d
+told_wait c d = record { turn = refl; text = put_nil 0 d (omega arith); short = omega arith }
+
 -- an event that prints nothing
-pub told_quiet : (e : Event) (d : List ℕ) (r : Turn) → e.printed ≡ [] → r ≡ turn_of e → Told e d r d
+pub told_quiet : (e : Event) (d : List ℕ) (r : Option Turn) → e.printed ≡ [] → r ≡ turn_of e → Told e d r d
 told_quiet e d r h p = record { turn = p; text = put_nil 0 d (omega arith) ∙ ap (λ (w : List ℕ). put 0 w d) (sym h); short = omega (arith, ap length h) }
 
 -- a line written at the start
-pub told_line : {m n : ℕ} {w d d' : List ℕ} (e : Event) (r : Turn) → m ≤ run_room → Piece m 0 w d n d' → e.printed ≡ w → r ≡ record { console = e.console; used = e.used; printed = n; waiting = e.waiting } → Told e d r d'
-told_line {m} {n} {w} {d} e r few p h q =
+pub told_line : {m n : ℕ} {w d d' : List ℕ} (e : Event) (r : Turn) → m ≤ run_room → Piece m 0 w d n d' → e.printed ≡ w → e.waiting ≡ false
+    → r ≡ record { console = e.console; used = e.used; printed = n } → Told e d (Some r) d'
+told_line {m} {n} {w} {d} e r few p h goes q =
     let l : n ≡ length e.printed = p.place ∙ (omega (arith, ap length h)) in
-    record { turn = q ∙ ap (λ (k : ℕ). record { console = e.console; used = e.used; printed = k; waiting = e.waiting }) l; text = p.text ∙ ap (λ (x : List ℕ). put 0 x d) (sym h); short = omega (arith, p.short, ap length h) }
+    record { turn = rw (q, l, goes) refl; text = p.text ∙ ap (λ (x : List ℕ). put 0 x d) (sym h); short = omega (arith, p.short, ap length h) }
 
-pub told_is : {e e' : Event} {d d' : List ℕ} {r : Turn} → e ≡ e' → Told e d r d' → Told e' d r d'
+pub told_is : {e e' : Event} {d d' : List ℕ} {r : Option Turn} → e ≡ e' → Told e d r d' → Told e' d r d'
 told_is q t = rw (← q) t
 
 -- ---- the plan
@@ -115,11 +120,11 @@ module _ (c : Console) (s : List ℕ) where
   line_waits h = rw h
 
   module _ (h : line_ready s ≡ true) where
-    pub line_bad : ReportAt.Bad ≡ report_at s → refuses c (Form c.line) ≡ line_event c s
+    pub line_bad : None ≡ report_at s → refuses c (Form c.line) ≡ line_event c s
     unfolding line_event
     line_bad e = rw (h, ← e)
 
-    pub line_steps : (report : Report) (used : ℕ) → ReportAt.Got report used ≡ report_at s → stepped_event c used (step c.run report) ≡ line_event c s
+    pub line_steps : (report : Report) (used : ℕ) → ◌≡◌ {A = Option (Report × ℕ)} (Some (report, used)) (report_at s) → stepped_event c used (step c.run report) ≡ line_event c s
     unfolding line_event
     line_steps report used e = rw (h, ← e)
 
@@ -173,11 +178,11 @@ module _ (c : Console) (s : List ℕ) where
   unfolding line_event
   line_used = by_test (line_ready s) (λ h. rw h (pick (report_at s) refl)) (λ h. rw h (omega arith))
     where
-      pick : (o : ReportAt) → report_at s ≡ o → (report_event c o).used ≤ length s
-      pick (ReportAt.Got report next) e =
+      pick : (o : Option (Report × ℕ)) → report_at s ≡ o → (report_event c o).used ≤ length s
+      pick (Some (report, next)) e =
           let n : next ≤ length s = report_within s report next (sym e) in
           by_test (accepted (step c.run report).answer) (λ h. rw h n) (λ h. rw h (omega arith))
-      pick ReportAt.Bad e = omega arith
+      pick None e = omega arith
 
   event_used : (event c s).used ≤ length s
   unfolding event
@@ -189,24 +194,30 @@ module _ (c : Console) (s : List ℕ) where
       pick Stopped = omega arith
 
 module _ (c : Console) (s d : List ℕ) where
-  pub next_no_room : length d < run_room → (r : Turn) → r ≡ turn_of (waits c) → (r ≡ next_turn c s d) × ((d ≡ next_out c s d) × ((r.used ≤ length s) × CountsIn r.printed d))
+  pub next_no_room : length d < run_room → (None ≡ next_turn c s d) × (d ≡ next_out c s d)
   unfolding next_turn next_out
-  next_no_room h r e = rw (lt-leb run_room (length d) h, e) (refl, (refl, (omega arith, counts_in_lem 0 d (omega arith))))
+  next_no_room h = rw (lt-leb run_room (length d) h) (refl, refl)
 
-  pub next_told : run_room ≤ length d → (r : Turn) (f : List ℕ) → Told (event c s) d r f → (r ≡ next_turn c s d) × ((f ≡ next_out c s d) × ((r.used ≤ length s) × CountsIn r.printed f))
-  unfolding next_turn next_out
-  next_told h r f t =
-      let u : r.used ≤ length s = rw t.turn (event_used c s) in
-      let l : length f ≡ length d = ap length t.text ∙ length_put 0 (event c s).printed d (omega (arith, t.short)) in
-      let n : r.printed ≤ length f = rw t.turn (omega (arith, t.short)) in
-      rw (le-leb run_room (length d) h) (t.turn, (t.text, (u, counts_in_lem r.printed f n)))
+  module _ (e : List ℕ) (k : IsFirstChunk d e run_room) where
+    pub next_told : (r : Option Turn) (f : List ℕ) → Told (event c s) e r f
+        → (r ≡ next_turn c s d) × ((f ++ drop run_room d ≡ next_out c s d) × IfSome r (λ (t : Turn). (t.used ≤ length s) × CountsIn t.printed (f ++ drop run_room d)))
+    unfolding next_turn next_out
+    next_told r f t =
+        let p : List ℕ = (event c s).printed in
+        let out : f ++ drop run_room d ≡ put 0 p d = ap (λ (x : List ℕ). x ++ drop run_room d) t.text ∙ chunk_put run_room p d e k t.short in
+        let l : length (f ++ drop run_room d) ≡ length d = ap length out ∙ length_put 0 p d (omega (arith, t.short, k.enough)) in
+        let counts : CountsIn (length p) (f ++ drop run_room d) = counts_in_lem (length p) (f ++ drop run_room d) (omega (arith, t.short, k.enough)) in
+        let bounds : IfSome r (λ (t : Turn). (t.used ≤ length s) × CountsIn t.printed (f ++ drop run_room d)) = by_test (event c s).waiting (λ w. rw (t.turn, w) tt) (λ w. rw (t.turn, w) (event_used c s, counts)) in
+        rw (le-leb run_room (length d) k.enough) (t.turn, (out, bounds))
+
+    pub end_told : (r : ℕ) (f : List ℕ) → Piece run_room 0 (end_output c s) e r f → (r ≡ end_length c s d) × ((f ++ drop run_room d ≡ end_written c s d) × CountsIn r (f ++ drop run_room d))
+    unfolding end_length end_written
+    end_told r f p =
+        let w : List ℕ = end_output c s in
+        let out : f ++ drop run_room d ≡ put 0 w d = ap (λ (x : List ℕ). x ++ drop run_room d) p.text ∙ chunk_put run_room w d e k p.short in
+        let l : length (f ++ drop run_room d) ≡ length d = ap length out ∙ length_put 0 w d (omega (arith, p.short, k.enough)) in
+        rw (le-leb run_room (length d) k.enough) (omega (arith, p.place), (out, counts_in_lem r (f ++ drop run_room d) (omega (arith, p.place, p.short, k.enough))))
 
   pub end_no_room : length d < run_room → (0 ≡ end_length c s d) × ((d ≡ end_written c s d) × CountsIn 0 d)
   unfolding end_length end_written
   end_no_room h = rw (lt-leb run_room (length d) h) (refl, (refl, counts_in_lem 0 d (omega arith)))
-
-  pub end_written_lem : run_room ≤ length d → (r : ℕ) (f : List ℕ) → Piece run_room 0 (end_output c s) d r f → (r ≡ end_length c s d) × ((f ≡ end_written c s d) × CountsIn r f)
-  unfolding end_length end_written
-  end_written_lem h r f p =
-      let l : r ≡ length (end_output c s) = omega (arith, p.place) in
-      rw (le-leb run_room (length d) h) (l, (p.text, piece_counts p h))

@@ -1,5 +1,5 @@
 -- What the tables with an entry for each border hold: windows by their deadline, intervals by their end. The laws are in ByDeadlineLaws.
-use Rattle.std.specs.Prelude.{ℕ, ◌+◌, ◌-◌, ◌≤◌, ◌<◌, ◌≡◌, List, [], ◌∷◌, get_or, if◌then◌else◌}
+use Rattle.std.specs.Prelude.{ℕ, ◌+◌, ◌-◌, ◌≤◌, ◌<◌, ◌≡◌, List, [], ◌∷◌, get_or, if◌then◌else◌, Option, Some, None}
 use Rattle.words.specs.Words.{◌<?◌}
 use Rattle.plan.specs.declared.Job.{Job}
 use Rattle.plan.specs.Limits.{max_slots}
@@ -26,6 +26,11 @@ pub record NextWindow (longest : List ℕ) (m N e : ℕ) : Type 0 where
   pub within : e ≤ N + 1
   pub none_before : (x : ℕ) → m < x → x < e → get_or longest x 0 ≡ 0
   pub ends : e ≤ N → 0 < get_or longest e 0
+
+-- the next deadline after m, none where no window ends up to N
+abbrev pub NextDeadline : List ℕ → ℕ → ℕ → Option ℕ → Type 0
+NextDeadline longest m N None = NextWindow longest m N (N + 1)
+NextDeadline longest m N (Some e) = (e ≤ N) × NextWindow longest m N e
 
 -- the place of the first of the intervals xs that ends at each border, where xs begin at place i
 abbrev pub PlacesFrom : ℕ → List Interval → List ℕ → Type 0

@@ -1,8 +1,9 @@
 -- Laws of the tables with an entry for each border: filled job by job and interval by interval, and what they tell of the deadlines.
-use Rattle.std.specs.Prelude.{ℕ, zero, suc, ◌+◌, ◌-◌, ◌≤◌, ◌<◌, max, min, ◌≡◌, refl, length, drop, get_or, set, replicate}
-use Rattle.std.proofs.Common.{sym, ap, ◌∙◌, arith, get_or-set_same, get_or-set_other, lt-ltb, le-ltb, eq-eqb, ne_eqb}
-use mathlib.Core.List.{List, [], ◌∷◌, map, Memᴰ}
+use Rattle.std.specs.Prelude.{ℕ, zero, suc, ◌+◌, ◌-◌, ◌≤◌, ◌<◌, Bool, true, false, max, min, ◌≡◌, refl, length, take, drop, get_or, set, replicate, if◌then◌else◌}
+use Rattle.std.proofs.Common.{sym, ap, ◌∙◌, arith, add-one, take-suc, drop-cons, drop_of_length-le, not-suc-le-zero, le_of_suc-le-suc, get_or-set_same, get_or-set_other, lt-ltb, le-ltb, eq-eqb, ne_eqb}
+use mathlib.Core.List.{List, [], ◌∷◌, ◌++◌, map, Memᴰ}
 use Rattle.std.proofs.lemmas.List.{get_or-replicate}
+use Rattle.words.specs.Words.{◌=?◌}
 use Rattle.words.specs.Cases.{by_less, by_equal}
 use Rattle.plan.specs.declared.Job.{Job}
 use Rattle.plan.specs.Limits.{max_slots}
@@ -21,10 +22,23 @@ pub due_in_time : (N : ℕ) (js : List Job) → N ≤ max_slots → Windowed N j
 due_in_time N [] h w = tt
 due_in_time N (j ∷ js) h w = (omega (arith, w.1), due_in_time N js h w.2)
 
-pub due_from : (i : ℕ) (js : List Job) → DueInTime js → DueInTime (drop i js)
-due_from zero js d = d
-due_from (suc i) [] d = tt
-due_from (suc i) (j ∷ js) d = due_from i js d.1
+-- the deadline at a place is a border of the table
+pub due_at : (js : List Job) (i : ℕ) (d : Job) → DueInTime js → i < length js → (get_or js i d).deadline ≤ max_slots
+due_at [] i d due h = absurd (not-suc-le-zero h)
+due_at (j ∷ js) zero d due h = due.0
+due_at (j ∷ js) (suc i) d due h = due_at js i d due.1 (le_of_suc-le-suc h)
+
+-- one job more, behind the others
+least_release_snoc : (e : ℕ) (js : List Job) (j : Job) → least_release e (js ++ j ∷ []) ≡ (if j.deadline =? e then min j.release (least_release e js) else least_release e js)
+unfolding least_release
+least_release_snoc e [] j = refl
+least_release_snoc e (k ∷ js) j = rw (least_release_snoc e js j) (swapped (j.deadline =? e) (k.deadline =? e) j.release k.release (least_release e js))
+  where
+    swapped : (a b : Bool) (x y least : ℕ) → (if b then min y (if a then min x least else least) else (if a then min x least else least)) ≡ (if a then min x (if b then min y least else least) else (if b then min y least else least))
+    swapped true true x y least = omega arith
+    swapped true false x y least = refl
+    swapped false true x y least = refl
+    swapped false false x y least = refl
 
 least_release_most : (e : ℕ) (js : List Job) → least_release e js ≤ e
 unfolding least_release
@@ -42,17 +56,19 @@ pub no_windows : LongestWindows [] (replicate borders 0)
 unfolding least_release
 no_windows e h = get_or-replicate borders e 0 0 (omega arith) ∙ (let z : 0 ≡ e - e = omega arith in z)
 
--- job j's window, of this length, counted at its deadline d
-pub window_counted : (j : Job) (js : List Job) (longest : List ℕ) (d length-of-j n : ℕ) → length longest ≡ borders → d < borders → LongestWindows js longest
-    → d ≡ j.deadline → length-of-j ≡ j.deadline - j.release → n ≡ max (get_or longest d 0) length-of-j → LongestWindows (j ∷ js) (set longest d n)
-unfolding least_release
-window_counted j js longest d length-of-j n size in_time table due own q e h =
-    by_equal j.deadline e
+-- the window of the job at place i, of this length, counted at its deadline
+pub window_counted : (js : List Job) (i : ℕ) (d : Job) (longest : List ℕ) (at own n : ℕ) → i < length js → DueInTime js → length longest ≡ borders → LongestWindows (take i js) longest
+    → at ≡ (get_or js i d).deadline → own ≡ (get_or js i d).deadline - (get_or js i d).release → n ≡ max (get_or longest at 0) own → LongestWindows (take (i + 1) js) (set longest at n)
+window_counted js i d longest at own n h due size table there long q e l =
+    let j : Job = get_or js i d in
+    let in_time = due_at js i d due h in
+    rw (add-one i, take-suc js i d h, least_release_snoc e (take i js) j)
+    (by_equal j.deadline e
     (λ same.
-    let before : get_or longest d 0 ≡ e - least_release e js = ap (λ k. get_or longest k 0) (due ∙ same) ∙ table e h in
-    let now : max (get_or longest d 0) length-of-j ≡ e - min j.release (least_release e js) = omega (arith, before, same, own, least_release_most e js) in
-    rw (eq-eqb j.deadline e same) (ap (λ k. get_or (set longest d n) k 0) (sym (due ∙ same)) ∙ get_or-set_same longest d n 0 (omega arith) ∙ q ∙ now))
-    (λ other. rw (ne_eqb j.deadline e other) (get_or-set_other longest d e n 0 (λ s. other (sym due ∙ sym s)) ∙ table e h))
+    let before : get_or longest at 0 ≡ e - least_release e (take i js) = ap (λ k. get_or longest k 0) (there ∙ same) ∙ table e l in
+    let now : n ≡ e - min j.release (least_release e (take i js)) = omega (arith, before, same, long, q, least_release_most e (take i js)) in
+    rw (eq-eqb j.deadline e same) (ap (λ k. get_or (set longest at n) k 0) (sym (there ∙ same)) ∙ get_or-set_same longest at n 0 (omega arith) ∙ now))
+    (λ other. rw (ne_eqb j.deadline e other) (get_or-set_other longest at e n 0 (λ s. other (sym there ∙ sym s)) ∙ table e l)))
 
 -- ---- the next deadline
 
@@ -81,24 +97,29 @@ module _ (js : List Job) (N : ℕ) (w : Windowed N js) (few : N ≤ max_slots) (
 
 -- ---- intervals by their end
 
-pub no_places : (n : ℕ) → PlacesFrom n [] (replicate borders n)
+pub no_places : (xs : List Interval) → PlacesFrom (length xs) (drop (length xs) xs) (replicate borders (length xs))
 unfolding place_of
-no_places n e h = get_or-replicate borders e n 0 (omega arith) ∙ (let z : n ≡ n + 0 = omega arith in z)
+no_places xs e h = rw (drop_of_length-le xs {i = length xs} (omega arith)) (get_or-replicate borders e (length xs) 0 (omega arith) ∙ (let z : length xs ≡ length xs + 0 = omega arith in z))
 
-module _ (x : Interval) (xs : List Interval) (place : List ℕ) (i : ℕ) (some : 0 < i) (table : PlacesFrom i xs place) where
-  -- where x does not end
-  place_kept : (e : ℕ) → e ≤ max_slots → (x.end ≡ e → ⊥) → get_or place e 0 ≡ i - 1 + place_of e (x ∷ xs)
-  place_kept e h q = omega (arith, table e h, place_on e x xs q)
+-- one interval more, from the last to the first
+module _ (xs : List Interval) (i : ℕ) (d : Interval) (place : List ℕ) (some : 0 < i) (within : i ≤ length xs) (table : PlacesFrom i (drop i xs) place) where
+  one_more : drop (i - 1) xs ≡ get_or xs (i - 1) d ∷ drop i xs
+  one_more = let e : suc (i - 1) ≡ i = omega arith in rw e at (drop-cons xs (i - 1) d (omega arith))
 
-  pub place_counted : length place ≡ borders → x.end < borders → PlacesFrom (i - 1) (x ∷ xs) (set place x.end (i - 1))
+  -- where it does not end
+  place_kept : (e : ℕ) → e ≤ max_slots → ((get_or xs (i - 1) d).end ≡ e → ⊥) → get_or place e 0 ≡ i - 1 + place_of e (drop (i - 1) xs)
+  place_kept e h q = rw one_more (omega (arith, table e h, place_on e (get_or xs (i - 1) d) (drop i xs) q))
+
+  pub place_counted : length place ≡ borders → (get_or xs (i - 1) d).end < borders → PlacesFrom (i - 1) (drop (i - 1) xs) (set place (get_or xs (i - 1) d).end (i - 1))
   place_counted size l e h =
+      let x : Interval = get_or xs (i - 1) d in
       by_equal x.end e
       (λ q.
-      let now : i - 1 ≡ i - 1 + place_of e (x ∷ xs) = omega (arith, place_here e x xs q) in
+      let now : i - 1 ≡ i - 1 + place_of e (drop (i - 1) xs) = rw one_more (omega (arith, place_here e x (drop i xs) q)) in
       ap (λ k. get_or (set place x.end (i - 1)) k 0) (sym q) ∙ get_or-set_same place x.end (i - 1) 0 (omega arith) ∙ now)
       (λ q. get_or-set_other place x.end e (i - 1) 0 (λ s. q (sym s)) ∙ place_kept e h q)
 
-  pub place_beyond : borders ≤ x.end → PlacesFrom (i - 1) (x ∷ xs) place
+  pub place_beyond : borders ≤ (get_or xs (i - 1) d).end → PlacesFrom (i - 1) (drop (i - 1) xs) place
   place_beyond l e h = place_kept e h (λ q. omega arith)
 
 -- ---- the homes of jobs due in time; with no intervals every job's place is 0

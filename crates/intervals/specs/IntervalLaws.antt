@@ -1,11 +1,12 @@
 -- Laws of a plan's intervals, its windows holding: they cover 0 to N, every deadline is an end, none lies inside an interval,
 -- they are at most max_intervals, and at border t < N the current one holds slot t. How deadlines rise is in DeadlineLaws.
-use Rattle.std.specs.Prelude.{ℕ, zero, suc, ◌+◌, ◌*◌, ◌≤◌, ◌<◌, max, min, ◌≡◌, refl, ◌⊎◌, Bool, true, false, length, drop, if◌then◌else◌}
-use Rattle.std.proofs.Common.{inl, inr, ⊎_elim, not-suc-le-zero, le_of_suc-le-suc, arith, length-append, lt-ltb, le-ltb, le-leb, eq-eqb, ne_eqb}
+use Rattle.std.specs.Prelude.{ℕ, zero, suc, ◌+◌, ◌*◌, ◌≤◌, ◌<◌, max, min, ◌≡◌, refl, ◌⊎◌, Bool, true, false, length, drop, take_while, cond, if◌then◌else◌}
+use Rattle.std.proofs.lemmas.List.Sums.{take_while-cons}
+use Rattle.std.proofs.Common.{ap, inl, inr, ⊎_elim, not-suc-le-zero, le_of_suc-le-suc, arith, length-append, lt-ltb, le-ltb, le-leb, eq-eqb, ne_eqb}
 use mathlib.Core.List.Memᴰ
 use mathlib.Core.List.{List, [], ◌∷◌, ◌++◌, Memᴰ}
 use Rattle.std.proofs.lemmas.Bool.{lt-leb}
-use Rattle.words.specs.Words.{◌<?◌, ◌=?◌}
+use Rattle.words.specs.Words.{◌≤?◌, ◌<?◌, ◌=?◌}
 use Rattle.words.specs.Cases.{by_less, by_equal}
 use Rattle.plan.specs.declared.Job.{Job}
 use Rattle.plan.specs.declared.Plan.{Plan}
@@ -194,6 +195,19 @@ unfolding past
 past_more t x xs h = rw (le-leb x.end t h)
 
 -- one that has not ends the count
+-- those past are the first ones that have ended
+pub past_first : (t : ℕ) (xs : List Interval) → length (take_while (λ (x : Interval). x.end ≤? t) xs) ≡ past t xs
+unfolding past
+past_first t [] = refl
+past_first t (x ∷ xs) = rw (take_while-cons (λ (x : Interval). x.end ≤? t) x xs) (go (x.end ≤? t) (past_first t xs))
+  where
+    ended : List Interval
+    ended = take_while (λ (x : Interval). x.end ≤? t) xs
+
+    go : (b : Bool) → length ended ≡ past t xs → length (cond b (x ∷ ended) []) ≡ (if b then suc (past t xs) else 0)
+    go true h = ap suc h
+    go false h = refl
+
 pub past_stop : (t : ℕ) (x : Interval) (xs : List Interval) → t < x.end → past t (x ∷ xs) ≡ 0
 unfolding past
 past_stop t x xs h = rw (lt-leb x.end t h)

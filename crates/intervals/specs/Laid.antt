@@ -1,4 +1,4 @@
--- The words of a layout as it is built: a list of intervals laid out with no job at home, the array that holds it, how far it is laid out. The laws are in LaidLaws.
+-- The words of a layout as it is built: a list of intervals laid out with no job at home, how far it is laid out. The laws are in LaidLaws.
 use Rattle.std.specs.Prelude.{ℕ, ◌≤◌, ◌≡◌, List, ◌++◌, length, replicate}
 use Rattle.words.specs.Words.{filled}
 use Rattle.plan.specs.declared.Job.{Job}
@@ -14,11 +14,6 @@ use Rattle.intervals.specs.ByDeadline.{LongestWindows}
 unfoldable pub laid : List Interval → Layout
 laid xs = record { count = length xs; interval = filled max_intervals blank_interval xs; home = replicate max_jobs max_intervals }
 
--- an array holds these intervals, as many as the count beside it, and blank ones beyond
-pub record Held (interval : List Interval) (count : ℕ) (xs : List Interval) : Type 0 where
-  pub all : interval ≡ filled max_intervals blank_interval xs
-  pub many : count ≡ length xs
-
 -- the intervals from 0 to N
 abbrev pub all_intervals : List Job → ℕ → List Interval
 all_intervals js N = intervals_from js N 0 (rising_deadlines js)
@@ -30,10 +25,10 @@ pub record Tabled (longest : List ℕ) (N : ℕ) (js : List Job) : Type 0 where
   pub few_slots : N ≤ max_slots
   pub few_jobs : length js ≤ max_jobs
 
--- laid out up to the end prev: the intervals held, and what the deadlines above prev still add, are all
-pub record LaidTo (js : List Job) (N : ℕ) (interval : List Interval) (count prev : ℕ) : Type 0 where
+-- laid out up to the end prev: the intervals so far, and what the deadlines above prev still add, are all
+pub record LaidTo (js : List Job) (N : ℕ) (l : Layout) (prev : ℕ) : Type 0 where
   pub so_far : List Interval
-  pub held : Held interval count so_far
+  pub held : l ≡ laid so_far
   pub whole : so_far ++ intervals_from js N prev (above prev (rising_deadlines js)) ≡ all_intervals js N
 
 -- with these homes

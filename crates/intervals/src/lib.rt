@@ -1,15 +1,16 @@
 // The intervals of a plan, laid out once. Their spares are in spares.
 #![tactic(auto)]
 
-ghost use Rattle.std.specs.Prelude.{◌≡◌, [], ◌-◌, ◌≤◌, max, min, take};
+ghost use Rattle.std.specs.Prelude.{◌≡◌, List, [], ◌∷◌, ◌++◌, ◌≤◌, ◌<◌, length};
 ghost use Rattle.plan.specs.Limits.{max_slots, max_jobs};
-ghost use Rattle.intervals.specs.Intervals.{intervals};
-ghost use Rattle.intervals.specs.Layout.{layout_of, past_in};
+ghost use Rattle.intervals.specs.declared.Interval.{Interval};
+ghost use Rattle.intervals.specs.Intervals.{max_intervals, gap, intervals};
+ghost use Rattle.intervals.specs.Layout.{layout_of, listed, past_in};
 ghost use Rattle.intervals.specs.Deadlines.{Windowed};
 ghost use Rattle.intervals.specs.Laid.{laid, all_intervals};
 
 use by_deadline::{homes_by, longest_windows, next_deadline, places_by_end};
-use plan::{Job, Plan};
+use plan::{JOBS, Job, Plan};
 
 mod by_deadline;
 
@@ -27,130 +28,92 @@ pub struct Interval {
 pub struct Layout {
     pub count: u16,
     pub interval: [Interval; INTERVALS],
-    pub home: [u16; plan::JOBS],
+    pub home: [u16; JOBS],
 }
 
-// ---- numbers
+impl Layout {
+    // The intervals, in order.
+    pub fn listed(&self) -> &[Interval]
+        ensures { result.now ≡ listed self.now }
+    {
+        &self.interval[..INTERVALS.min(usize::from(self.count))]
+    }
 
-// a - b, not below 0.
-pub fn left(a: u16, b: u16) -> u16
-    ensures { result ≡ a - b }
-{
-    if b <= a { a - b } else { 0 }
+    // One interval more, after the others.
+    fn push(&mut self, start: u16, end: u16)
+        requires { self.old.count < max_intervals }
+        ensures { (xs : List Interval) → self.old ≡ laid xs → self.new ≡ laid (xs ++ record { start = start; end = end } ∷ []) }
+    {
+        self.interval[usize::from(self.count)] = Interval { start, end };
+        self.count += 1;
+    }
+
+    // The empty interval from start to end, where there is a gap.
+    fn push_gap(&mut self, start: u16, end: u16)
+        requires { start < end → self.old.count < max_intervals }
+        ensures { (xs : List Interval) → self.old ≡ laid xs → self.new ≡ laid (xs ++ gap start end) }
+    {
+        if start < end {
+            self.push(start, end);
+        }
+    }
 }
-
-pub fn larger(a: u16, b: u16) -> u16
-    ensures { result ≡ max a b }
-{
-    if a <= b { b } else { a }
-}
-
-// n, at most the limit: how many entries of an array a record's count takes.
-pub fn capped(n: u16, limit: usize) -> usize
-    ensures { result ≡ min n limit }
-{
-    let w = plan::wide(n);
-    if w <= limit { w } else { limit }
-}
-
-// ---- intervals
 
 // A layout with no intervals and no job at home.
+#[tactic(auto, unfolding(crate::specs::Laid::laid))]
 fn empty_layout() -> Layout
     ensures { result ≡ laid [] }
 {
-    let blank = Interval { start: 0, end: 0 };
-    let interval = [blank; INTERVALS];
-    let home = [INTERVALS as u16; plan::JOBS];
     Layout {
         count: 0,
-        interval: interval,
-        home: home,
+        interval: [Interval { start: 0, end: 0 }; INTERVALS],
+        home: [INTERVALS as u16; JOBS],
     }
 }
 
-// The intervals of the first n jobs, their windows holding: deadline by deadline, each after the gap before it, and the gap after the last.
-fn intervals_of(job: [Job; plan::JOBS], n: usize, slots: u16) -> Layout
-    requires { (n ≤ max_jobs) × (slots ≤ max_slots) × Windowed slots (take n job) }
-    ensures { result ≡ laid (all_intervals (take n job) slots) }
+// The intervals of these jobs, their windows holding: deadline by deadline, each after the gap before it, and the gap after the last.
+fn intervals_of(job: &[Job], slots: u16) -> Layout
+    requires { (length job.now ≤ max_jobs) × (slots ≤ max_slots) × Windowed slots job.now }
+    ensures { result ≡ laid (all_intervals job.now slots) }
 {
-    let longest = longest_windows(job, n);
-    let blank = Interval { start: 0, end: 0 };
-    let mut interval = [blank; INTERVALS];
-    let mut count: usize = 0;
-    let mut prev: u16 = 0;
-    let mut e = next_deadline(&longest, prev, slots);
-    while e <= slots {
-        let length = longest[plan::wide(e)];
-        let start = larger(prev, e - length);
-        if prev < start {
-            interval[count] = Interval {
-                start: prev,
-                end: start,
-            };
-            count += 1;
-        }
-        interval[count] = Interval {
-            start: start,
-            end: e,
-        };
-        count += 1;
+    let longest = longest_windows(job);
+    let mut layout = empty_layout();
+    let mut prev = 0;
+    while let Some(e) = next_deadline(&longest, prev, slots) {
+        let start = prev.max(e - longest[usize::from(e)]);
+        layout.push_gap(prev, start);
+        layout.push(start, e);
         prev = e;
-        e = next_deadline(&longest, prev, slots);
     }
-    if prev < slots {
-        interval[count] = Interval {
-            start: prev,
-            end: slots,
-        };
-        count += 1;
-    }
-    let home = [INTERVALS as u16; plan::JOBS];
-    Layout {
-        count: count as u16,
-        interval: interval,
-        home: home,
-    }
+    layout.push_gap(prev, slots);
+    layout
 }
 
 // The intervals of a plan; a plan whose limits or windows are broken has none.
-fn plan_intervals(p: Plan) -> Layout
-    ensures { result ≡ laid (intervals p) }
+fn plan_intervals(p: &Plan) -> Layout
+    ensures { result ≡ laid (intervals p.now) }
 {
-    if !plan::windows_hold(p) {
-        return empty_layout();
+    if plan::windows_hold(*p) {
+        let job = &p.job[..usize::from(p.jobs)];
+        intervals_of(job, p.slots)
+    } else {
+        empty_layout()
     }
-    let job = p.job;
-    let n = plan::wide(p.jobs);
-    intervals_of(job, n, p.slots)
 }
 
 // The intervals of a plan with the homes of its jobs, worked out once.
 pub fn layout_of(p: Plan) -> Layout
     ensures { result ≡ layout_of p }
 {
-    let bare = plan_intervals(p);
-    let interval = bare.interval;
-    let place = places_by_end(interval, capped(bare.count, INTERVALS));
-    let job = p.job;
-    let home = homes_by(&place, job, capped(p.jobs, plan::JOBS));
-    let mut l = bare;
-    l.home = home;
-    l
+    let bare = plan_intervals(&p);
+    let place = places_by_end(bare.listed());
+    let home = homes_by(&place, &p.job[..JOBS.min(usize::from(p.jobs))]);
+    Layout { home, ..bare }
 }
 
 // How many intervals are past at border t: the next one is the current.
 pub fn past_of(l: Layout, t: u16) -> usize
     ensures { result ≡ past_in l t }
 {
-    let count = capped(l.count, INTERVALS);
-    let mut i: usize = 0;
-    while i < count {
-        let x = l.interval[i];
-        if t < x.end {
-            return i;
-        }
-        i += 1;
-    }
-    i
+    l.listed().iter().take_while(|x| x.end <= t).count()
 }

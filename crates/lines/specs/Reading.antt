@@ -3,7 +3,7 @@
 use Rattle.std.specs.Prelude.{ℕ, ◌+◌, ◌-◌, ◌≤◌, ◌≡◌, ◌&&◌, List, length, take, drop, Option, Some, None, option_map, if◌then◌else◌}
 use Rattle.answers.specs.Answer.{Answer, accepted}
 use Rattle.words.specs.Words.{◌<?◌, filled}
-use Rattle.lines.specs.Lines.{Cursor, Read, got, refused, line_length, begins, value_in}
+use Rattle.lines.specs.Lines.{Cursor, Read, got, refused, Reader, line_length, begins, value_in, or_form}
 use Rattle.lines.specs.declared.reading.ValueAt.{ValueAt}
 
 -- where the line after the one at `at` starts
@@ -28,6 +28,24 @@ field_at meaning text at key = option_map (λ a. (a, line_after text at)) (value
 
 -- ---- places against the definitions' cursors
 
+-- the value of the next line, with its key as bytes
+abbrev pub line_with : {A : Type 0} → (List ℕ → Option A) → List ℕ → Reader A
+line_with meaning key = λ here. or_form (value_in meaning key here.text) here
+
 -- a reader that stands at a place of a text, before line l
 abbrev pub standing : List ℕ → ℕ → ℕ → Cursor
 standing text at l = record { line_no = l; text = drop at text }
+
+-- things read into an array of `size`, `blank` beyond them
+abbrev pub filled_read : {A : Type 0} → ℕ → A → Read (List A) → Read (List A)
+filled_read size blank (got xs here) = got (filled size blank xs) here
+filled_read size blank (refused answer) = refused answer
+
+-- what is read where an answer, an array beside it and the next place are so, line m after it
+abbrev pub array_read : {A : Type 0} → List ℕ → ℕ → Answer → List A → ℕ → Read (List A)
+array_read text m answer array next = if accepted answer then got array (standing text next m) else refused answer
+
+-- an answer, an array and the next place, which lies in the text, say what is read
+pub record ArrayHere {A : Type 0} (text : List ℕ) (m : ℕ) (answer : Answer) (array : List A) (next : ℕ) (r : Read (List A)) : Type 0 where
+  pub read : array_read text m answer array next ≡ r
+  pub within : next ≤ length text

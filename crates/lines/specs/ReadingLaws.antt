@@ -5,7 +5,6 @@ use Rattle.std.specs.Prelude.{List, [], ◌∷◌, Bool, ◌&&◌, ◌||◌, get
 use Rattle.std.proofs.lemmas.Option.{none-some, same_Some}
 use Rattle.std.proofs.Math.Bool.{true, false}
 use Prim.Native.Nat.{ℕ, zero, suc, ◌+◌, ◌-◌, ◌≤◌, ◌<◌}
-use Prim.Native.String.{String}
 use Rattle.std.proofs.Math.Nat.{sub-zero}
 use native.Mathlib.Omega.{arith}
 use Rattle.std.proofs.Math.ListN.{length, length-drop}
@@ -13,8 +12,8 @@ use Rattle.std.proofs.Math.Seq.{drop-drop, take-nil}
 use borrow.Author.Tests.{eq-eqb, ne_eqb, le-ltb, lt-ltb, ltb-true}
 use Rattle.answers.specs.Answer.{Form}
 use Rattle.words.specs.Words.{◌<?◌}
-use Rattle.lines.specs.Lines.{bytes, LF, got, refused, line_length, begins, same_bytes, number, number_from, or_form, value_in, field}
-use Rattle.lines.specs.Reading.{line_after, line_here, value_at, field_at, standing}
+use Rattle.lines.specs.Lines.{LF, got, refused, line_length, begins, same_bytes, number, number_from, or_form, value_in}
+use Rattle.lines.specs.Reading.{line_with, line_after, line_here, value_at, field_at, standing}
 use Rattle.lines.specs.TextLaws.{lf_at, lf_nowhere}
 use Rattle.lines.specs.declared.reading.ValueAt.{ValueAt}
 
@@ -191,9 +190,9 @@ module _ {A : Type 0} (meaning : List ℕ → Option A) (t : List ℕ) (at : ℕ
 
 module _ {A : Type 0} (meaning : List ℕ → Option A) (key : List ℕ) (t : List ℕ) (at l m : ℕ) where
   -- the line of a value is closed
-  pub line_within : (v : A) → value_in meaning key (drop at t) ≡ Some v → line_after t at ≤ length t
+  pub value_within : (v : A) → value_in meaning key (drop at t) ≡ Some v → line_after t at ≤ length t
   unfolding value_in
-  line_within v e = inner (line_length (drop at t) <? length (drop at t)) (begins key (take (line_length (drop at t)) (drop at t))) refl e
+  value_within v e = inner (line_length (drop at t) <? length (drop at t)) (begins key (take (line_length (drop at t)) (drop at t))) refl e
     where
       inner : (b d : Bool) → (line_length (drop at t) <? length (drop at t)) ≡ b
           → (if b && d then meaning (drop (length key) (take (line_length (drop at t)) (drop at t))) else None) ≡ Some v
@@ -203,7 +202,7 @@ module _ {A : Type 0} (meaning : List ℕ → Option A) (key : List ℕ) (t : Li
 
   -- a value that was read, and the place after its line: the reader then stands before the next line, m
   pub field_got : m ≡ suc l → (v : A × ℕ) → Some v ≡ field_at meaning t at key
-      → (or_form (value_in meaning key (drop at t)) (standing t at l) ≡ got v.0 (standing t v.1 m)) × (v.1 ≤ length t)
+      → (line_with meaning key (standing t at l) ≡ got v.0 (standing t v.1 m)) × (v.1 ≤ length t)
   unfolding field_at
   field_got n v e = inner (value_in meaning key (drop at t)) refl e
     where
@@ -212,16 +211,13 @@ module _ {A : Type 0} (meaning : List ℕ → Option A) (key : List ℕ) (t : Li
       inner (Some a) p e =
           let w : v ≡ (a, line_after t at) = same_Some v (a, line_after t at) e in
           let k : at + suc (line_length (drop at t)) ≡ line_after t at = omega arith in
-          rw w (rw (drop-drop, k, n), line_within a p)
+          rw w (rw (drop-drop, k, n), value_within a p)
       inner None p e = absurd (none-some v (sym e))
 
-  pub field_refused : None ≡ field_at meaning t at key → or_form (value_in meaning key (drop at t)) (standing t at l) ≡ refused (Form l)
+  pub field_refused : None ≡ field_at meaning t at key → line_with meaning key (standing t at l) ≡ refused (Form l)
   unfolding field_at
   field_refused e = inner (value_in meaning key (drop at t)) e
     where
       inner : (o : Option A) → ◌≡◌ {A = Option (A × ℕ)} None (option_map (λ a. (a, line_after t at)) o) → or_form o (standing t at l) ≡ refused (Form l)
       inner (Some a) e = absurd (none-some _ e)
       inner None e = refl
-
-pub value_within : {A : Type 0} (meaning : List ℕ → Option A) (key : String) (t : List ℕ) (at l m : ℕ) (v : A) → value_in meaning (bytes key) (drop at t) ≡ Some v → line_after t at ≤ length t
-value_within meaning key t at l m v = line_within meaning (bytes key) t at l m v

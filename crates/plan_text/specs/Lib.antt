@@ -6,7 +6,7 @@ pub mod WriteLaws
 pub mod RoundTrip
 pub mod DecidedLaws
 pub mod Reader
+pub mod ReaderLaws
 pub mod PrefixLaws
+pub mod Sheet
 pub mod WriterLaws
-pub mod Walk
-pub mod WalkLaws

@@ -1,35 +1,19 @@
--- Laws of the plan at the start of a text: what it says of the definitions' reader, and that the rest of the text begins at the place it says.
-use Rattle.std.specs.Prelude.{ℕ, ◌≤◌, ◌≡◌, Bool, ◌&&◌, List}
+-- Laws of the plan at a place of a text: the rest of the text begins at the place that is handed back.
+use Rattle.std.specs.Prelude.{ℕ, ◌-◌, ◌≤◌, ◌≡◌, List}
 use Rattle.std.proofs.Common.{arith}
 use Rattle.std.proofs.Math.Path.{refl, ap}
 use Rattle.std.proofs.Math.Bool.{true, false}
 use Rattle.std.proofs.Math.ListN.{length}
-use borrow.Author.Tests.{leb-true}
-use Rattle.words.specs.Words.{◌≤?◌}
-use Rattle.answers.specs.Answer.{Answer, SlotLimit, JobLimit, accepted, ◌unless◌}
+use Rattle.answers.specs.Answer.{SlotLimit, JobLimit, accepted, ◌unless◌}
+use Rattle.plan.specs.declared.Job.{Job}
 use Rattle.plan.specs.declared.Plan.{Plan}
 use Rattle.plan.specs.Limits.{max_slots, max_jobs, one_to}
-use Rattle.lines.specs.Lines.{number, Read, got, refused, must, many, field}
+use Rattle.lines.specs.Lines.{number, Read, got, refused, onward, must, many, field}
 use Rattle.lines.specs.Reading.{standing}
 use Rattle.lines.specs.ForwardLaws.{end_self, end_place, Forward, GoesForward, onward_forward, must_forward, many_forward, field_forward}
 use Rattle.plan_text.specs.Read.{level_in, next_job, next_plan, start_of}
 use Rattle.plan_text.specs.Reader.{prefix_of, plan_from, plan_prefix}
 use Rattle.plan_text.specs.declared.reader.PlanPrefix.{PlanPrefix}
-
--- ---- a limit
-
--- a number that was not refused keeps its limit
-pub keeps_limit : (limit n : ℕ) (refusal answer : Answer)
-    → answer ≡ (refusal unless one_to limit n) → accepted refusal ≡ false → accepted answer ≡ true → n ≤ limit
-keeps_limit limit n refusal answer e refuses accepts = judged (1 ≤? n) (n ≤? limit) refl e
-  where
-    refuted : answer ≡ refusal → ⊥
-    refuted p = let z : ◌≡◌ {A = ℕ} 0 1 = cc in omega arith
-
-    judged : (a b : Bool) → (n ≤? limit) ≡ b → answer ≡ (refusal unless (a && b)) → n ≤ limit
-    judged a true p q = leb-true n limit p
-    judged true false p q = absurd (refuted q)
-    judged false false p q = absurd (refuted q)
 
 -- from the start of the text on, every line has a number
 pub from_start : (t : List ℕ) → plan_from t 0 1 ≡ plan_prefix t

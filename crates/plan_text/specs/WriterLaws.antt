@@ -1,7 +1,7 @@
--- Laws for the writer's code: the numbers checked job by job and slot by slot, and one check after another.
-use Rattle.std.specs.Prelude.{ℕ, suc, ◌+◌, ◌*◌, ◌/◌, ◌≤◌, ◌<◌, ◌≡◌, Bool, true, take, drop, get_or, Result, Ok, Err}
-use Rattle.std.proofs.Common.{add-one, zero-add, arith, ◌∙◌, length-append, drop_of_length-le, drop-cons, length-take-le, take-suc}
-use Rattle.std.proofs.lemmas.List.{take_all, take-append-drop}
+-- Laws for the writer's code: the numbers checked line by line, the lengths, the lines put one after the other, and one check after another.
+use Rattle.std.specs.Prelude.{ℕ, suc, ◌+◌, ◌*◌, ◌/◌, ◌≤◌, ◌<◌, ◌≡◌, Bool, true, take, drop, get_or, Ok, Err}
+use Rattle.std.proofs.Common.{add-one, zero-add, arith, ◌∙◌, length-append, drop_of_length-le, drop-cons, take-suc}
+use Rattle.std.proofs.lemmas.List.{take_all, take-append-drop, length-take}
 use Rattle.std.proofs.Math.Numerals.{add-two, add-three, add-four}
 use Rattle.std.proofs.Math.Decide.{dec_lt}
 use Rattle.std.proofs.Math.Path.{refl, sym, ap}
@@ -18,7 +18,7 @@ use Rattle.plan.specs.declared.Level.{Level}
 use Rattle.plan.specs.declared.Level.TheVariants.{Lo, Hi}
 use Rattle.plan.specs.declared.Job.{Job}
 use Rattle.plan.specs.declared.Plan.{Plan}
-use Rattle.plan.specs.Limits.{max_slots, max_jobs, max_number}
+use Rattle.plan.specs.Limits.{max_number}
 use Rattle.plan.specs.Plan.{jobs_of, slots_of}
 use Rattle.plan.specs.Rules.{check2, check3}
 use Rattle.lines.specs.Lines.{bytes, line, number_line, digits}
@@ -26,9 +26,8 @@ use Rattle.lines.specs.NumberLaws.{digits_one, digits_few}
 use Rattle.lines.specs.Writing.{put_fit, place_after}
 use Rattle.lines.specs.WritingLaws.{digits_shorter, line_length_lem, first_room, then_room, fit_then, after_fits, put_fits, put_start}
 use Rattle.plan_text.specs.Read.{level_text, job_text, plan_text}
-use Rattle.plan_text.specs.Write.{Written, numbers_on, numbers_fit, write_answer, write_out}
+use Rattle.plan_text.specs.Write.{Written, numbers_on, numbers_fit, write_answer}
 use Rattle.plan_text.specs.Parts.{numbers_in, four_digits}
-use Rattle.plan_text.specs.RoundLaws.{one_to_lem, limit_slots, limit_jobs}
 
 -- ---- the checks in the order of the code
 
@@ -61,20 +60,25 @@ unfolding flat_map
 five [] = refl
 five (j ∷ js) = omega (arith, length-append (numbers_in j) (flat_map numbers_in js), five js)
 
--- two numbers that fit in front
-two : (m n : ℕ) (ns : List ℕ) → m ≤ 9999 → n ≤ 9999 → first_refusal four_digits 1 (m ∷ n ∷ ns) ≡ first_refusal four_digits 3 ns
-unfolding first_refusal accepted
-two m n ns h k = rw (le-leb m 9999 h, le-leb n 9999 k)
+module _ (p : Plan) where
+  -- the numbers of slots and of jobs, on the first two lines
+  pub slots_stop : (r : Refusal) → four_digits 1 p.slots ≡ Err r → Err r ≡ numbers_fit p
+  unfolding numbers_fit numbers_on first_refusal accepted
+  slots_stop r f = sym (rw f)
 
--- the numbers of a plan within its limits: its jobs' from line 3 on, then its slots'
-pub numbers_parts : (p : Plan) → p.slots ≤ max_slots → p.jobs ≤ max_jobs → p.jobs ≤ length p.job
-    → numbers_fit p ≡ (first_refusal four_digits 3 (flat_map numbers_in (jobs_of p)) and_then first_refusal four_digits (3 + 5 * p.jobs) (slots_of p))
-unfolding numbers_fit numbers_on
-numbers_parts p hs hj l =
-    let n : 3 + length (flat_map numbers_in (jobs_of p)) ≡ 3 + 5 * p.jobs = omega (arith, five (jobs_of p), length-take-le p.jobs p.job l) in
-    two p.slots p.jobs (flat_map numbers_in (jobs_of p) ++ slots_of p) (omega arith) (omega arith)
-    ∙ first_append 3 (flat_map numbers_in (jobs_of p)) (slots_of p)
-    ∙ ap (λ (k : ℕ). first_refusal four_digits 3 (flat_map numbers_in (jobs_of p)) and_then first_refusal four_digits k (slots_of p)) n
+  module _ (one : four_digits 1 p.slots ≡ Accepted) where
+    pub jobs_stop : (r : Refusal) → four_digits 2 p.jobs ≡ Err r → Err r ≡ numbers_fit p
+    unfolding numbers_fit numbers_on first_refusal accepted
+    jobs_stop r f = sym (rw (one, f))
+
+    -- the others: the jobs' from line 3 on, then the slots'
+    pub numbers_parts : four_digits 2 p.jobs ≡ Accepted
+        → numbers_fit p ≡ (first_refusal four_digits 3 (flat_map numbers_in (jobs_of p)) and_then first_refusal four_digits (3 + 5 * length (jobs_of p)) (slots_of p))
+    unfolding numbers_fit numbers_on first_refusal accepted
+    numbers_parts two =
+        let n : 3 + length (flat_map numbers_in (jobs_of p)) ≡ 3 + 5 * length (jobs_of p) = omega (arith, five (jobs_of p)) in
+        rw (one, two) (first_append 3 (flat_map numbers_in (jobs_of p)) (slots_of p)
+        ∙ ap (λ (k : ℕ). first_refusal four_digits 3 (flat_map numbers_in (jobs_of p)) and_then first_refusal four_digits k (slots_of p)) n)
 
 -- the jobs from i on, with the rest of the answer: job i and then the others
 module _ (w rest : Answer) (js : List Job) (z : Job) (i k : ℕ) (h : i < length js) (e : w ≡ (first_refusal four_digits k (flat_map numbers_in (drop i js)) and_then rest)) where
@@ -146,6 +150,10 @@ job_length j =
 pub slot_length : (n : ℕ) → length (number_line "slot=" n) ≡ 6 + length (digits n)
 slot_length n = omega (arith, line_length_lem (bytes "slot=") n)
 
+-- the first n of m are at most m
+pub first_few : {A : Type 0} (xs all : List A) (n m : ℕ) → xs ≡ take n all → length all ≡ m → length xs ≤ m
+first_few xs all n m e l = omega (arith, ap length e, length-take n all)
+
 -- the texts of many have their lengths' sum
 length_flat : {A : Type 0} (print : A → List ℕ) (xs : List A) → length (flat_map print xs) ≡ sum_by (λ x. length (print x)) xs
 unfolding flat_map
@@ -201,7 +209,7 @@ module _ {A : Type 0} (print : A → List ℕ) where
   flat_append [] ys = refl
   flat_append (x ∷ xs) ys = ap (λ (r : List ℕ). print x ++ r) (flat_append xs ys) ∙ sym (append_assoc (print x) (flat_map print xs) (flat_map print ys))
 
-  module _ (xs : List A) (z : A) (head out₀ : List ℕ) (room : length (head ++ flat_map print xs) ≤ length out₀) where
+  module _ (xs : List A) (head out₀ : List ℕ) where
     -- the text so far
     abbrev first : ℕ → List ℕ
     first i = head ++ flat_map print (take i xs)
@@ -214,7 +222,7 @@ module _ {A : Type 0} (print : A → List ℕ) where
         → (p ≡ place_after 0 (head ++ flat_map print xs) out₀) × (out ≡ put_fit 0 (head ++ flat_map print xs) out₀)
     many_all p i out h e f = (rw (take_all i xs h) at e, rw (take_all i xs h) at f)
 
-    module _ (p i : ℕ) (out : List ℕ) (h : i < length xs) (e : p ≡ place_after 0 (first i) out₀) (f : out ≡ put_fit 0 (first i) out₀) where
+    module _ (z : A) (room : length (head ++ flat_map print xs) ≤ length out₀) (p i : ℕ) (out : List ℕ) (h : i < length xs) (e : p ≡ place_after 0 (first i) out₀) (f : out ≡ put_fit 0 (first i) out₀) where
       abbrev next : List ℕ
       next = print (get_or xs i z)
 
@@ -269,46 +277,27 @@ module _ (p : Plan) (out : List ℕ) (room : length (plan_text p) ≤ length out
 
 -- ---- the writer's ways out
 
--- past checks 2 and 3 the limits hold
-pub slots_within : (p : Plan) → accepted (check2 p) ≡ true → p.slots ≤ max_slots
-unfolding check2
-slots_within p h = (one_to_lem max_slots p.slots (limit_slots _ h)).1
-
-pub jobs_within : (p : Plan) → accepted (check3 p) ≡ true → p.jobs ≤ max_jobs
-unfolding check3
-jobs_within p h = (one_to_lem max_jobs p.jobs (limit_jobs _ h)).1
-
-module _ (p : Plan) (out : List ℕ) where
-  -- the answer and the output are those of the definitions
-  abbrev Ends : Result ℕ Refusal → List ℕ → Type 0
-  Ends r o = (r ≡ write_answer p (length out)) × (o ≡ write_out p out)
-
-  -- a refusal leaves the output as it was
-  refused_ends : (e : Refusal) → write_answer p (length out) ≡ Err e → Ends (Err e) out
-  unfolding write_out accepted
-  refused_ends e w = (sym w, rw w)
-
-  pub ends_2 : (e : Refusal) → check2 p ≡ Err e → Ends (Err e) out
+-- the answer at each way out
+module _ (p : Plan) (room : ℕ) where
+  pub ends_2 : (e : Refusal) → check2 p ≡ Err e → write_answer p room ≡ Err e
   unfolding write_answer accepted
-  ends_2 e f = refused_ends e (rw f)
+  ends_2 e f = rw f
 
   module _ (ok2 : check2 p ≡ Accepted) where
-    pub ends_3 : (e : Refusal) → check3 p ≡ Err e → Ends (Err e) out
+    pub ends_3 : (e : Refusal) → check3 p ≡ Err e → write_answer p room ≡ Err e
     unfolding write_answer accepted
-    ends_3 e f = refused_ends e (rw (ok2, f))
+    ends_3 e f = rw (ok2, f)
 
     module _ (ok3 : check3 p ≡ Accepted) where
-      pub ends_1 : (e : Refusal) → numbers_fit p ≡ Err e → Ends (Err e) out
+      pub ends_1 : (e : Refusal) → numbers_fit p ≡ Err e → write_answer p room ≡ Err e
       unfolding write_answer accepted
-      ends_1 e f = refused_ends e (rw (ok2, ok3, f))
+      ends_1 e f = rw (ok2, ok3, f)
 
       module _ (ok1 : numbers_fit p ≡ Accepted) where
-        pub ends_14 : (len : ℕ) → len ≡ length (plan_text p) → length out < len → Ends (Err (Refusal.NoRoom len)) out
+        pub ends_14 : room < length (plan_text p) → write_answer p room ≡ Err (Refusal.NoRoom (length (plan_text p)))
         unfolding write_answer accepted
-        ends_14 len e h = refused_ends (Refusal.NoRoom len) (rw (ok2, ok3, ok1, lt-leb (length (plan_text p)) (length out) (omega arith)) (ap (λ (n : ℕ). Err (Refusal.NoRoom n)) (sym e)))
+        ends_14 h = rw (ok2, ok3, ok1, lt-leb (length (plan_text p)) room h)
 
-        pub ends_written : (r : ℕ) (o : List ℕ) → length (plan_text p) ≤ length out → r ≡ length (plan_text p) → o ≡ plan_text p ++ drop (length (plan_text p)) out → Ends (Written r) o
-        unfolding write_answer write_out accepted
-        ends_written r o h e f =
-            let w : write_answer p (length out) ≡ Written (length (plan_text p)) = rw (ok2, ok3, ok1, le-leb (length (plan_text p)) (length out) h) in
-            (ap Written e ∙ sym w, f ∙ rw w)
+        pub ends_written : length (plan_text p) ≤ room → write_answer p room ≡ Written (length (plan_text p))
+        unfolding write_answer accepted
+        ends_written h = rw (ok2, ok3, ok1, le-leb (length (plan_text p)) room h)

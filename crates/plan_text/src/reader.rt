@@ -1,18 +1,19 @@
 // The plan text read: its lines in their fixed order, judged line by line. Windows, budgets and the table are judged in acceptance.
-ghost use Rattle.std.specs.Prelude.{◌≡◌, ◌+◌, ◌*◌, ◌≤◌, length};
-ghost use Rattle.lines.specs.Lines.{bytes, number, many, field};
-ghost use Rattle.lines.specs.Reading.{field_at};
-ghost use Rattle.plan_text.specs.Read.{level_in, next_job, next_plan, only_plan, start_of, read_plan};
-ghost use Rattle.plan_text.specs.Walk.{Walked, Past, stands, field_in, read_into, last_line, plan_lines};
-ghost use Rattle.plan_text.specs.Reader.{numbered, refused_prefix, whole, plan_from, plan_prefix};
+ghost use Rattle.std.specs.Prelude.{◌≡◌, ◌+◌, ◌*◌, ◌≤◌, ◌<◌, length};
+ghost use Rattle.plan.specs.Limits.{max_slots, max_jobs};
+ghost use Rattle.plan.specs.Plan.{blank_job};
+ghost use Rattle.lines.specs.Lines.{bytes, number, field};
+ghost use Rattle.lines.specs.Reading.{field_at, line_with};
+ghost use Rattle.plan_text.specs.Read.{level_in, next_job, next_plan, read_plan};
+ghost use Rattle.plan_text.specs.Reader.{Taken, Reads, many_filled, plan_lines, last_line, plan_told, prefix_told, plan_from, plan_prefix};
 
 use super::PlanRead;
 use answers::{Answer, Refusal};
-use line_reader::LineReader;
-use plan::{Job, Level, Plan};
+use line_reader::number_field;
+use plan::{JOBS, Job, Level, Plan, SLOTS};
 
 // The lines of the largest plan, and the last line that has a number.
-const PLAN_LINES: usize = 2 + 5 * plan::JOBS + plan::SLOTS;
+const PLAN_LINES: usize = 2 + 5 * JOBS + SLOTS;
 
 const LAST_LINE: usize = 65535;
 
@@ -24,6 +25,14 @@ pub struct PlanPrefix {
     pub plan: Plan,
     pub next: usize,
     pub line: u16,
+}
+
+// The lines of a text from a place on, with the number of the line there.
+#[derive(Drop)]
+struct Lines<'a> {
+    text: &'a [u8],
+    at: usize,
+    line: u16,
 }
 
 #[tactic(auto, unfolding(crate::specs::Read::level_in))]
@@ -49,125 +58,111 @@ fn level_field(text: &[u8], at: usize) -> Option<(Level, usize)>
     Some((level, value.next))
 }
 
-// A walk through the lines of a text: the reader at the next line, and that line's number.
-// A refused walk is not used again.
-#[derive(Drop)]
-struct Walk<'a> {
-    reader: LineReader<'a>,
-    line: u16,
-}
+impl Lines<'_> {
+    // What was found on the line, and the lines after it; nothing was found: 1 at this line.
+    fn taken<T>(&mut self, found: Option<(T, usize)>) -> Result<T, Refusal>
+        requires { self.old.line < last_line }
+        ensures { Taken self.old found result self.new }
+    {
+        let (value, next) = found.ok_or(Refusal::Form(self.line))?;
+        self.at = next;
+        self.line += 1;
+        Ok(value)
+    }
 
-// What was seen on the next line, and the walk goes past it; or the refusal of the line where nothing was.
-fn past<T>(walk: &mut Walk, seen: Option<(T, usize)>) -> Result<T, Refusal>
-    requires { walk.old.line + 1 ≤ last_line }
-    ensures { Past walk.old walk.new seen result }
-{
-    match seen {
-        Some((value, next)) => {
-            walk.reader.at = next;
-            walk.line += 1;
-            Ok(value)
+    // The number on the line.
+    #[tactic(auto, using(crate::specs::ReaderLaws::taken_reads))]
+    fn number(&mut self, key: &[u8]) -> Result<u16, Refusal>
+        requires { self.old.line < last_line }
+        ensures { Reads (line_with number key.now) 1 self.old result self.new }
+    {
+        self.taken(number_field(self.text, self.at, key))
+    }
+
+    // The level on the line.
+    #[tactic(auto, using(crate::specs::ReaderLaws::taken_reads), unfolding(lines::specs::Lines::field))]
+    fn level(&mut self) -> Result<Level, Refusal>
+        requires { self.old.line < last_line }
+        ensures { Reads (field level_in "level=") 1 self.old result self.new }
+    {
+        self.taken(level_field(self.text, self.at))
+    }
+
+    // The five lines of a job.
+    fn job(&mut self) -> Result<Job, Refusal>
+        requires { self.old.line + 5 ≤ last_line }
+        ensures { Reads next_job 5 self.old result self.new }
+    {
+        let level = self.level()?;
+        let release = self.number(b"release=")?;
+        let deadline = self.number(b"deadline=")?;
+        let lo = self.number(b"lo=")?;
+        let hi = self.number(b"hi=")?;
+        Ok(Job {
+            level,
+            release,
+            deadline,
+            lo,
+            hi,
+        })
+    }
+
+    // The lines of so many jobs, blank jobs beyond them.
+    fn jobs(&mut self, count: usize) -> Result<[Job; JOBS], Refusal>
+        requires count_le_max_jobs { count ≤ max_jobs }
+        requires lines { self.old.line + 5 * count ≤ last_line }
+        requires within { self.old.at ≤ length self.old.text.now }
+        ensures { Reads (many_filled max_jobs blank_job count next_job) (5 * count) self.old result self.new }
+    {
+        let mut job = [plan::blank_job(); JOBS];
+        for i in 0..count {
+            job[i] = self.job()?;
         }
-        None => Err(Refusal::Form(walk.line)),
+        Ok(job)
     }
-}
 
-// The number on the next line, which has the key.
-fn next_number(walk: &mut Walk, key: &[u8]) -> Result<u16, Refusal>
-    requires { walk.old.line + 1 ≤ last_line }
-    ensures { Walked 1 walk.old walk.new result (field_in number key.now (stands walk.old)) }
-{
-    let seen = line_reader::number_field(walk.reader.text, walk.reader.at, key);
-    past(walk, seen)
-}
-
-// The level on the next line.
-fn next_level(walk: &mut Walk) -> Result<Level, Refusal>
-    requires { walk.old.line + 1 ≤ last_line }
-    ensures { Walked 1 walk.old walk.new result (field_in level_in (bytes "level=") (stands walk.old)) }
-{
-    let seen = level_field(walk.reader.text, walk.reader.at);
-    past(walk, seen)
-}
-
-// The job of the next five lines.
-fn next_job(walk: &mut Walk) -> Result<Job, Refusal>
-    requires { walk.old.line + 5 ≤ last_line }
-    ensures { Walked 5 walk.old walk.new result (next_job (stands walk.old)) }
-{
-    let level = next_level(walk)?;
-    let release = next_number(walk, b"release=")?;
-    let deadline = next_number(walk, b"deadline=")?;
-    let lo = next_number(walk, b"lo=")?;
-    let hi = next_number(walk, b"hi=")?;
-    Ok(Job {
-        level,
-        release,
-        deadline,
-        lo,
-        hi,
-    })
-}
-
-// The next jobs, as many as there is room for.
-fn next_jobs(walk: &mut Walk, jobs: &mut [Job]) -> Result<(), Refusal>
-    requires { walk.old.line + 5 * length jobs.old ≤ last_line }
-    ensures { Walked (5 * length jobs.old) walk.old walk.new (read_into jobs.new result) (many (length jobs.old) next_job (stands walk.old)) }
-{
-    for job in jobs {
-        *job = next_job(walk)?;
+    // The lines of so many slots, 0 beyond them.
+    fn slots(&mut self, count: usize) -> Result<[u16; SLOTS], Refusal>
+        requires count_le_max_slots { count ≤ max_slots }
+        requires lines { self.old.line + count ≤ last_line }
+        requires within { self.old.at ≤ length self.old.text.now }
+        ensures { Reads (many_filled max_slots 0 count (field number "slot=")) count self.old result self.new }
+    {
+        let mut table = [0u16; SLOTS];
+        for t in 0..count {
+            table[t] = self.number(b"slot=")?;
+        }
+        Ok(table)
     }
-    Ok(())
-}
 
-// The next slots, as many as there is room for.
-fn next_slots(walk: &mut Walk, slots: &mut [u16]) -> Result<(), Refusal>
-    requires { walk.old.line + length slots.old ≤ last_line }
-    ensures { Walked (length slots.old) walk.old walk.new (read_into slots.new result) (many (length slots.old) (field number "slot=") (stands walk.old)) }
-{
-    for slot in slots {
-        *slot = next_number(walk, b"slot=")?;
+    // The lines of a plan; those of the largest have numbers.
+    fn plan(&mut self) -> Result<Plan, Refusal>
+        requires { self.old.line + plan_lines ≤ last_line }
+        ensures { Reads next_plan plan_lines self.old result self.new }
+    {
+        let slots = self.number(b"slots=")?;
+        plan::slot_limit(slots)?;
+        let jobs = self.number(b"jobs=")?;
+        plan::job_limit(jobs)?;
+        let job = self.jobs(usize::from(jobs))?;
+        let table = self.slots(usize::from(slots))?;
+        Ok(Plan {
+            slots,
+            jobs,
+            job,
+            table,
+        })
     }
-    Ok(())
-}
 
-// The plan on the next lines, whatever follows it.
-fn next_plan(walk: &mut Walk) -> Result<Plan, Refusal>
-    requires { walk.old.line + plan_lines ≤ last_line }
-    ensures { Walked plan_lines walk.old walk.new result (next_plan (stands walk.old)) }
-{
-    let slots = next_number(walk, b"slots=")?;
-    plan::slot_limit(slots)?;
-    let jobs = next_number(walk, b"jobs=")?;
-    plan::job_limit(jobs)?;
-    let mut job = [plan::blank_job(); plan::JOBS];
-    next_jobs(walk, &mut job[..usize::from(jobs)])?;
-    let mut table = [0; plan::SLOTS];
-    next_slots(walk, &mut table[..usize::from(slots)])?;
-    Ok(Plan {
-        slots,
-        jobs,
-        job,
-        table,
-    })
-}
-
-fn refused(refusal: Refusal) -> PlanPrefix
-    ensures { result ≡ refused_prefix (Err refusal) }
-{
-    PlanPrefix {
-        answer: Err(refusal),
-        plan: plan::blank_plan(),
-        next: 0,
-        line: 0,
+    // The plan from any line on: where the lines of the largest would pass the last number it is refused at its first.
+    fn numbered_plan(&mut self) -> Result<Plan, Refusal>
+        ensures { prefix_told result self.new ≡ plan_from self.old.text.now self.old.at self.old.line }
+    {
+        if LAST_LINE < usize::from(self.line) + PLAN_LINES {
+            return Err(Refusal::Form(self.line));
+        }
+        self.plan()
     }
-}
-
-// Every line of a plan that starts at this line has a number.
-fn has_numbers(line: u16) -> bool
-    ensures { result ≡ numbered line }
-{
-    usize::from(line) + PLAN_LINES <= LAST_LINE
 }
 
 // The plan at a place of the text, which is the start of that line, whatever follows the plan. Every place and line is answered:
@@ -175,24 +170,20 @@ fn has_numbers(line: u16) -> bool
 pub fn plan_from(text: &[u8], at: usize, line: u16) -> PlanPrefix
     ensures { result ≡ plan_from text.now at line }
 {
-    if !has_numbers(line) {
-        return refused(Refusal::Form(line));
-    }
-    let mut walk = Walk {
-        reader: LineReader {
-            text,
-            at: at.min(text.len()),
-        },
-        line,
-    };
-    match next_plan(&mut walk) {
+    let mut lines = Lines { text, at, line };
+    match lines.numbered_plan() {
         Ok(plan) => PlanPrefix {
             answer: Ok(()),
             plan,
-            next: walk.reader.at,
-            line: walk.line,
+            next: lines.at,
+            line: lines.line,
         },
-        Err(refusal) => refused(refusal),
+        Err(refusal) => PlanPrefix {
+            answer: Err(refusal),
+            plan: plan::blank_plan(),
+            next: 0,
+            line: 0,
+        },
     }
 }
 
@@ -204,26 +195,27 @@ pub fn plan_prefix(text: &[u8]) -> PlanPrefix
     plan_from(text, 0, 1)
 }
 
-// The plan that the text is, with nothing after it; or the refusal.
-fn only_plan(text: &[u8]) -> Result<Plan, Refusal>
-    ensures { whole result ≡ read_plan text.now }
+// The plan that the text is, with nothing after it.
+fn whole_plan(text: &[u8]) -> Result<Plan, Refusal>
+    ensures { plan_told result ≡ read_plan text.now }
 {
-    let mut walk = Walk {
-        reader: LineReader { text, at: 0 },
+    let mut lines = Lines {
+        text,
+        at: 0,
         line: 1,
     };
-    let plan = next_plan(&mut walk)?;
-    if walk.reader.at < text.len() {
-        return Err(Refusal::Form(walk.line));
+    let plan = lines.plan()?;
+    if lines.at < text.len() {
+        return Err(Refusal::Form(lines.line));
     }
     Ok(plan)
 }
 
-// The plan that the text is, with nothing after it.
+// The plan that the text is, or the refusal beside the blank plan.
 pub fn read_plan(text: &[u8]) -> PlanRead
     ensures { result ≡ read_plan text.now }
 {
-    match only_plan(text) {
+    match whole_plan(text) {
         Ok(plan) => PlanRead {
             answer: Ok(()),
             plan,

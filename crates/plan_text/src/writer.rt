@@ -1,11 +1,11 @@
 // The writer of the plan text: the numbers and the room are checked first, then the lines are written one after the other.
 // The lines themselves are in lines::writing, the reader in reader.
-ghost use Rattle.std.specs.Prelude.{◌≡◌, ◌+◌, ◌*◌, ◌≤◌, length, take, drop};
+ghost use Rattle.std.specs.Prelude.{◌≡◌, ◌+◌, ◌≤◌, length, take, drop};
 ghost use mathlib.Core.List.{◌++◌, flat_map};
 ghost use Rattle.answers.specs.Answer.{first_refusal};
-ghost use Rattle.plan.specs.Limits.{max_slots, max_jobs};
 ghost use Rattle.lines.specs.Lines.{digits, line, number_line};
-ghost use Rattle.lines.specs.Writing.{put_fit, place_after};
+ghost use Rattle.lines.specs.Writing.{number_line_of};
+ghost use Rattle.plan_text.specs.Sheet.{Puts};
 ghost use Rattle.plan_text.specs.Read.{level_text, job_text, plan_text};
 ghost use Rattle.plan_text.specs.Write.{numbers_fit, write_answer, write_out};
 ghost use Rattle.plan_text.specs.Parts.{numbers_in, four_digits};
@@ -16,6 +16,13 @@ use plan::{Job, Level, Plan};
 
 // The largest number of four digits.
 const MOST: u16 = 9999;
+
+// The first n of them all; an n beyond them means all.
+fn first<T>(all: &[T], n: u16) -> &[T]
+    ensures { result.now ≡ take n all.now }
+{
+    &all[..usize::from(n).min(all.len())]
+}
 
 // 1 at the line of a number above 9999.
 fn four_digits(line: u16, n: u16) -> Answer
@@ -40,17 +47,18 @@ fn job_fits(line: u16, job: &Job) -> Answer
 }
 
 // 1: the first number of the plan above 9999, at its line.
+#[tactic(auto, using(words::specs::ListLaws::long, crate::specs::WriterLaws::slots_stop, crate::specs::WriterLaws::jobs_stop, crate::specs::WriterLaws::numbers_parts, crate::specs::WriterLaws::job_stops, crate::specs::WriterLaws::job_goes_on, crate::specs::WriterLaws::jobs_end, crate::specs::WriterLaws::slot_stops, crate::specs::WriterLaws::slot_goes_on, crate::specs::WriterLaws::slots_end))]
 fn numbers_fit(p: &Plan) -> Answer
-    requires slots_le_max_slots { p.now.slots ≤ max_slots }
-    requires jobs_le_max_jobs { p.now.jobs ≤ max_jobs }
     ensures { result ≡ numbers_fit p.now }
 {
+    four_digits(1, p.slots)?;
+    four_digits(2, p.jobs)?;
     let mut line = 3;
-    for job in &p.job[..usize::from(p.jobs)] {
+    for job in first(&p.job, p.jobs) {
         job_fits(line, job)?;
         line += 5;
     }
-    for name in &p.table[..usize::from(p.slots)] {
+    for name in first(&p.table, p.slots) {
         four_digits(line, *name)?;
         line += 1;
     }
@@ -87,64 +95,75 @@ fn slot_len(name: &u16) -> usize
     6 + digit_count(*name)
 }
 
-// How long the text of a plan within its limits is.
+// How long the text of a plan is.
 #[tactic(auto, using(crate::specs::WriterLaws::text_length))]
 fn text_len(p: &Plan) -> usize
-    requires slots_le_max_slots { p.now.slots ≤ max_slots }
-    requires jobs_le_max_jobs { p.now.jobs ≤ max_jobs }
     ensures { result ≡ length (plan_text p.now) }
 {
-    let jobs: usize = p.job[..usize::from(p.jobs)].iter().map(job_len).sum();
-    let slots: usize = p.table[..usize::from(p.slots)].iter().map(slot_len).sum();
+    let jobs: usize = first(&p.job, p.jobs).iter().map(job_len).sum();
+    let slots: usize = first(&p.table, p.slots).iter().map(slot_len).sum();
     13 + digit_count(p.slots) + digit_count(p.jobs) + jobs + slots
 }
 
-// The line of a level.
-fn put_level(out: &mut [u8], at: usize, level: Level) -> usize
-    ensures value { result ≡ place_after at (line "level=" (level_text level)) out.old }
-    ensures out_after { out.new ≡ put_fit at (line "level=" (level_text level)) out.old }
-{
-    match level {
-        Level::Lo => writing::put_bytes(out, at, b"level=LO\n"),
-        Level::Hi => writing::put_bytes(out, at, b"level=HI\n"),
-    }
+// An output and the place in it where the next line goes.
+#[derive(Drop)]
+struct Sheet<'a> {
+    out: &'a mut [u8],
+    at: usize,
 }
 
-// A job's five lines, which have room.
-#[tactic(auto, using(crate::specs::WriterLaws::job_pieces))]
-fn put_job(out: &mut [u8], at: usize, job: &Job) -> usize
-    requires { at + length (job_text job.now) ≤ length out.old }
-    ensures value { result ≡ place_after at (job_text job.now) out.old }
-    ensures out_after { out.new ≡ put_fit at (job_text job.now) out.old }
-{
-    let at = put_level(out, at, job.level);
-    let at = writing::put_line(out, at, b"release=", u32::from(job.release));
-    let at = writing::put_line(out, at, b"deadline=", u32::from(job.deadline));
-    let at = writing::put_line(out, at, b"lo=", u32::from(job.lo));
-    writing::put_line(out, at, b"hi=", u32::from(job.hi))
+impl<'a> Sheet<'a> {
+    // A line of a key and a number.
+    fn line(&mut self, key: &[u8], n: u16)
+        ensures { Puts (number_line_of key.now n) self.old self.new }
+    {
+        self.at = writing::put_line(self.out, self.at, key, u32::from(n));
+    }
+
+    // The line of a level.
+    fn level(&mut self, level: Level)
+        ensures { Puts (line "level=" (level_text level)) self.old self.new }
+    {
+        self.at = match level {
+            Level::Lo => writing::put_bytes(self.out, self.at, b"level=LO\n"),
+            Level::Hi => writing::put_bytes(self.out, self.at, b"level=HI\n"),
+        };
+    }
+
+    // A job's five lines, which have room.
+    #[tactic(auto, using(crate::specs::WriterLaws::job_pieces))]
+    fn job(&mut self, job: &Job)
+        requires { self.old.at + length (job_text job.now) ≤ length self.old.out.now }
+        ensures { Puts (job_text job.now) self.old self.new }
+    {
+        self.level(job.level);
+        self.line(b"release=", job.release);
+        self.line(b"deadline=", job.deadline);
+        self.line(b"lo=", job.lo);
+        self.line(b"hi=", job.hi);
+    }
 }
 
 // The whole text from the start of the output, which has room for it.
 fn put_plan(out: &mut [u8], p: &Plan) -> usize
-    requires slots_le_max_slots { p.now.slots ≤ max_slots }
-    requires jobs_le_max_jobs { p.now.jobs ≤ max_jobs }
-    requires p_in_bounds { length (plan_text p.now) ≤ length out.old }
+    requires { length (plan_text p.now) ≤ length out.old }
     ensures value { result ≡ length (plan_text p.now) }
     ensures out_after { out.new ≡ plan_text p.now ++ drop (length (plan_text p.now)) out.old }
 {
-    let at = writing::put_line(out, 0, b"slots=", u32::from(p.slots));
-    let mut at = writing::put_line(out, at, b"jobs=", u32::from(p.jobs));
-    for job in &p.job[..usize::from(p.jobs)] {
-        at = put_job(out, at, job);
+    let mut sheet = Sheet { out, at: 0 };
+    sheet.line(b"slots=", p.slots);
+    sheet.line(b"jobs=", p.jobs);
+    for job in first(&p.job, p.jobs) {
+        sheet.job(job);
     }
-    for name in &p.table[..usize::from(p.slots)] {
-        at = writing::put_line(out, at, b"slot=", u32::from(*name));
+    for name in first(&p.table, p.slots) {
+        sheet.line(b"slot=", *name);
     }
-    at
+    sheet.at
 }
 
 // The text of a plan. Checked are 2, 3, 1 and 14; a refusal leaves the output as it was, and so are the bytes past the text.
-#[tactic(auto, using(answers::specs::AnswerLaws::passed, answers::specs::AnswerLaws::failed, crate::specs::WriterLaws::slots_within, crate::specs::WriterLaws::jobs_within, crate::specs::WriterLaws::ends_2, crate::specs::WriterLaws::ends_3, crate::specs::WriterLaws::ends_1, crate::specs::WriterLaws::ends_14, crate::specs::WriterLaws::ends_written), unfolding(plan::specs::Rules::check2, plan::specs::Rules::check3))]
+#[tactic(auto, using(crate::specs::WriterLaws::ends_2, crate::specs::WriterLaws::ends_3, crate::specs::WriterLaws::ends_1, crate::specs::WriterLaws::ends_14, crate::specs::WriterLaws::ends_written), unfolding(plan::specs::Rules::check2, plan::specs::Rules::check3, answers::specs::Answer::accepted, crate::specs::Write::write_out))]
 pub fn write_plan(p: Plan, out: &mut [u8]) -> Result<usize, Refusal>
     ensures value { result ≡ write_answer p (length out.old) }
     ensures out_after { out.new ≡ write_out p out.old }

@@ -1,6 +1,6 @@
 -- The words in which a row is worked out in naturals: from last to first a debt is carried, what the intervals from here on ask beyond their room.
 -- The spares themselves are defined in Spares; that both agree is proved in RowLaws and DebtLaws.
-use Rattle.std.specs.Prelude.{ℕ, suc, ◌+◌, ◌-◌, ◌*◌, ◌≤◌, ◌<◌, max, Bool, ◌≡◌, List, [], ◌∷◌, ◌++◌, map, ℤ, pos, get_or, set, length, take, drop, replicate, if◌then◌else◌}
+use Rattle.std.specs.Prelude.{ℕ, suc, ◌+◌, ◌-◌, ◌*◌, ◌≤◌, ◌<◌, max, Bool, ◌≡◌, List, [], ◌∷◌, ◌++◌, map, ℤ, pos, get_or, set, length, drop, replicate, if◌then◌else◌}
 use Rattle.words.specs.Words.{◌≤?◌, ◌<?◌, count_up}
 use Rattle.plan.specs.Limits.{max_jobs}
 use Rattle.intervals.specs.declared.Interval.{Interval}
@@ -67,10 +67,10 @@ pub record SumsSoFar (hs ws sums : List ℕ) (k : ℕ) : Type 0 where
   pub whole : (i : ℕ) → i < max_intervals → get_or sums i 0 + work_at i (drop k hs) (drop k ws) ≡ work_at i hs ws
   pub small : SumsBelow (k * max_work) sums
 
--- of the first n intervals: the row from place i on is made, and the debt is known
-pub record RowSoFar (t n : ℕ) (hs ws : List ℕ) (xs : List Interval) (row : List ℤ) (debt i : ℕ) : Type 0 where
+-- the row of the intervals xs from place i on is made, and the debt is known
+pub record RowSoFar (t : ℕ) (hs ws : List ℕ) (xs : List Interval) (row : List ℤ) (debt i : ℕ) : Type 0 where
   pub size : length row ≡ max_intervals
-  pub within : i ≤ n
-  pub owed : debt ≡ debt_from t i (of_jobs hs ws) (drop i (take n xs))
-  pub small : debt ≤ (n - i) * max_place_work
-  pub made : drop i row ≡ spares_from t i hs ws (drop i (take n xs)) ++ replicate (max_intervals - n) (pos 0)
+  pub within : i ≤ length xs
+  pub owed : debt ≡ debt_from t i (of_jobs hs ws) (drop i xs)
+  pub small : debt ≤ (length xs - i) * max_place_work
+  pub made : drop i row ≡ spares_from t i hs ws (drop i xs) ++ replicate (max_intervals - length xs) (pos 0)

@@ -1,9 +1,8 @@
 -- A current interval in debt is one whose spare is below 0.
 -- The words are in Debt; the laws of the sums and of whole rows are in RowLaws.
-use Rattle.std.specs.Prelude.{ℕ, zero, suc, ◌+◌, ◌-◌, ◌*◌, ◌≤◌, ◌<◌, ◌≡◌, refl, Bool, true, false, List, [], ◌∷◌, ◌++◌, ℤ, pos, negsuc, get_or, length, take, drop, replicate, if◌then◌else◌}
-use Rattle.std.proofs.Common.{arith, sym, ap, ◌∙◌, lt-ltb, le-ltb, length-take, length-drop}
+use Rattle.std.specs.Prelude.{ℕ, zero, suc, ◌+◌, ◌-◌, ◌*◌, ◌≤◌, ◌<◌, ◌≡◌, refl, Bool, true, false, List, [], ◌∷◌, ◌++◌, ℤ, pos, negsuc, get_or, length, drop, replicate, if◌then◌else◌}
+use Rattle.std.proofs.Common.{arith, sym, ap, ◌∙◌, lt-ltb, le-ltb, length-take, length-drop, drop-cons, drop_of_length-le}
 use Rattle.words.specs.Words.{◌≤?◌, ◌<?◌, below0}
-use Rattle.words.specs.BackLaws.{back_step}
 use Rattle.words.specs.Difference.{Is}
 use Rattle.intervals.specs.declared.Interval.{Interval}
 use Rattle.intervals.specs.declared.Layout.{Layout}
@@ -16,18 +15,24 @@ use Rattle.spares.specs.RowLaws.{sum_at, debt_is}
 
 -- ---- the debt, worked out last interval first
 
--- of the first n intervals, at the code's i - 1: one interval more
-pub debt_back : (t n i : ℕ) (work : ℕ → ℕ) (xs : List Interval) → n ≤ length xs → 0 < i → i ≤ n →
+-- at the code's i - 1: one interval more
+pub debt_back : (t i : ℕ) (work : ℕ → ℕ) (xs : List Interval) → 0 < i → i ≤ length xs →
     let x : Interval = get_or xs (i - 1) blank_interval in
-    debt_from t (i - 1) work (drop (i - 1) (take n xs)) ≡ asked t x (work (i - 1)) (debt_from t i work (drop i (take n xs))) - room t x
+    debt_from t (i - 1) work (drop (i - 1) xs) ≡ asked t x (work (i - 1)) (debt_from t i work (drop i xs)) - room t x
 unfolding debt_from
-debt_back t n i work xs long p h =
+debt_back t i work xs p h =
     let e : suc (i - 1) ≡ i = omega arith in
-    rw (back_step xs n long i blank_interval p h, e)
+    let here : drop (i - 1) xs ≡ get_or xs (i - 1) blank_interval ∷ drop i xs = rw e at (drop-cons xs (i - 1) blank_interval (omega arith)) in
+    rw (here, e)
 
 -- and the debt stays small
 pub debt_small : (debt debt' n i : ℕ) → debt' ≤ debt + max_sum → debt ≤ (n - i) * max_sum → 0 < i → i ≤ n → debt' ≤ (n - (i - 1)) * max_sum
 debt_small debt debt' n i more small p h = omega arith
+
+-- with none left there is no debt
+pub debt_none : (t : ℕ) (work : ℕ → ℕ) (xs : List Interval) → 0 ≡ debt_from t (length xs) work (drop (length xs) xs)
+unfolding debt_from
+debt_none t work xs = rw (drop_of_length-le xs {i = length xs} (omega arith))
 
 -- ---- the debt and the current spare
 
@@ -57,6 +62,10 @@ row_at [] (suc n) zero = refl
 row_at [] (suc n) (suc i) = row_at [] n i
 row_at (x ∷ xs) n zero = refl
 row_at (x ∷ xs) n (suc i) = row_at xs n i
+
+-- a layout lists no more than it holds
+pub listed_few : (l : Layout) → length l.interval ≡ max_intervals → length (listed l) ≤ max_intervals
+listed_few l size = omega (arith, length-take l.count l.interval)
 
 pub past_within : (t : ℕ) (xs : List Interval) → past t xs ≤ length xs
 unfolding past

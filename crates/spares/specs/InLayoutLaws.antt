@@ -1,8 +1,14 @@
 -- A plan's own layout gives the plan's own row: the work at home in a place is the remaining work of the interval there,
 -- since the ends of intervals are distinct.
-use Rattle.std.specs.Prelude.{ℕ, zero, suc, ◌+◌, ◌-◌, ◌<◌, ◌≡◌, refl, true, false, List, [], ◌∷◌, ◌++◌, map, pos, length, replicate}
-use Rattle.std.proofs.Common.{ap, ◌∙◌, arith, ne_eqb}
-use Rattle.words.specs.Words.{filled}
+use Rattle.std.specs.Prelude.{ℕ, zero, suc, ◌+◌, ◌-◌, ◌<◌, ◌≡◌, refl, true, false, List, [], ◌∷◌, ◌++◌, map, pos, negsuc, length, replicate}
+use Rattle.std.specs.Ordering.{int_eq}
+use lib.Pointwise.{pointwise}
+use Rattle.std.proofs.Common.{ap, ◌∙◌, arith, eq-eqb, ne_eqb, eqb-true, Decides}
+use Rattle.std.proofs.lemmas.Bool.{false≢true}
+use Rattle.std.proofs.lemmas.Bool.Decides.{same_from_decides}
+use Rattle.std.specs.Cmp.{signed_Decides}
+use mathlib.Core.List.{zip_with}
+use Rattle.words.specs.Words.{filled, every}
 use Rattle.words.specs.Cases.{by_test}
 use Rattle.plan.specs.declared.Job.{Job}
 use Rattle.plan.specs.declared.Plan.{Plan}
@@ -16,7 +22,7 @@ use Rattle.intervals.specs.Layout.{place_of, homes, layout_of}
 use Rattle.intervals.specs.Covers.{Covers, interval_at}
 use Rattle.intervals.specs.IntervalLaws.{intervals_cover, few_intervals, no_intervals}
 use Rattle.intervals.specs.LayoutLaws.{same_place, listed_layout, past_of_layout}
-use Rattle.spares.specs.Spares.{Spare, remaining, spares, row, current}
+use Rattle.spares.specs.Spares.{Spare, remaining, spares, row, current, same_spare, same_row}
 use Rattle.spares.specs.InLayout.{work_at, spares_from, row_in, current_in}
 
 -- ---- the work of a place
@@ -74,3 +80,20 @@ row_of_layout p t ws = ap (filled max_intervals (pos 0)) (ap (spares_from t 0 (l
 pub current_of_layout : (p : Plan) (l : Layout) (t : ℕ) (zs : List Spare) → l ≡ layout_of p → current_in l t zs ≡ current p t zs
 unfolding current_in current
 current_of_layout p l t zs e = rw (e, past_of_layout p t)
+
+-- ---- two rows
+
+-- two spares are the same exactly when they are one number
+one_spare : (x y : Spare) → Decides (same_spare x y) (x ≡ y)
+one_spare (pos m) (pos n) = (λ t. ap pos (eqb-true m n t), λ e. eq-eqb m n cc)
+one_spare (pos m) (negsuc n) = (λ t. absurd (false≢true t), λ e. cc)
+one_spare (negsuc m) (pos n) = (λ t. absurd (false≢true t), λ e. cc)
+one_spare (negsuc m) (negsuc n) = (λ t. ap negsuc (eqb-true m n t), λ e. eq-eqb m n cc)
+
+-- rows of one length are the same where the library's test says so
+pub same_row_lem : (xs ys : List Spare) → length xs ≡ length ys → pointwise int_eq xs ys ≡ same_row xs ys
+unfolding same_row every zip_with
+same_row_lem [] [] h = refl
+same_row_lem [] (y ∷ ys) h = absurd (omega arith)
+same_row_lem (x ∷ xs) [] h = absurd (omega arith)
+same_row_lem (x ∷ xs) (y ∷ ys) h = rw (same_row_lem xs ys (omega arith), same_from_decides _ (same_spare x y) (signed_Decides x y) (one_spare x y))

@@ -1,7 +1,7 @@
 -- A row worked out with a debt is the row of spares, and the sums by home are the work of the places. The words are in Debt;
 -- that a layout's row is the plan's stands in LayoutLaws.
-use Rattle.std.specs.Prelude.{ℕ, suc, ◌+◌, ◌-◌, ◌*◌, ◌≤◌, ◌<◌, ◌≡◌, refl, Bool, true, false, ℤ, pos, negsuc, set, length, take, replicate, if◌then◌else◌}
-use Rattle.std.proofs.Common.{sym, ap, ◌∙◌, arith, add-one, le-leb, lt-ltb, le-ltb, eq-eqb, ne_eqb, drop_of_length-le, ext_get_or, length-take-le, get_or-set_same, get_or-set_other, drop-cons}
+use Rattle.std.specs.Prelude.{ℕ, suc, ◌+◌, ◌-◌, ◌*◌, ◌≤◌, ◌<◌, ◌≡◌, refl, Bool, true, false, ℤ, pos, negsuc, set, length, replicate, if◌then◌else◌}
+use Rattle.std.proofs.Common.{sym, ap, ◌∙◌, arith, add-one, le-leb, lt-ltb, le-ltb, eq-eqb, ne_eqb, drop_of_length-le, ext_get_or, get_or-set_same, get_or-set_other, drop-cons}
 use mathlib.Core.List.{List, [], ◌∷◌}
 use Rattle.std.proofs.lemmas.Bool.{lt-leb}
 use Rattle.std.proofs.Math.IntN.{sub_ℕ}
@@ -9,9 +9,7 @@ use Rattle.std.proofs.Math.ListN.{get_or, length-set, drop, length-replicate}
 use Rattle.std.proofs.lemmas.List.{length-map, get_or-replicate}
 use Rattle.words.specs.Words.{◌≤?◌, ◌<?◌, ◌=?◌, count_up, filled}
 use Rattle.words.specs.Cases.{by_less, by_equal}
-use Rattle.words.specs.ListLaws.{taken_from}
 use Rattle.words.specs.PartLaws.{drop_replicate, drop_set}
-use Rattle.words.specs.BackLaws.{back_start}
 use Rattle.words.specs.Difference.{Is, is_pos, is_sub, is_add, is_as, is_one}
 use Rattle.plan.specs.Limits.{max_jobs}
 use Rattle.plan.specs.CountLaws.{count_up_length, count_up_at}
@@ -47,9 +45,9 @@ sums_start hs ws = record {
   small = λ i l. rw (get_or-replicate {A = ℕ} max_intervals i 0 0 l) (omega arith);
 }
 
-pub work_counted : (sums : List ℕ) (home work : ℕ) → home < max_intervals → set sums home (get_or sums home 0 + work) ≡ with_work sums home work
+pub work_counted : (sums : List ℕ) (home work : ℕ) {n : ℕ} → home < max_intervals → n ≡ work → set sums home (get_or sums home 0 + n) ≡ with_work sums home work
 unfolding with_work
-work_counted sums home work h = rw (lt-ltb home max_intervals h)
+work_counted sums home work h e = rw (lt-ltb home max_intervals h, e)
 
 pub work_nowhere : (sums : List ℕ) (home work : ℕ) → max_intervals ≤ home → sums ≡ with_work sums home work
 unfolding with_work
@@ -155,28 +153,28 @@ unfolding spares_from
 length_spares t i hs ws [] = refl
 length_spares t i hs ws (x ∷ xs) = ap suc (length_spares t (suc i) hs ws xs)
 
-module _ (t n : ℕ) (hs ws : List ℕ) (xs : List Interval) (few : n ≤ max_intervals) (long : length xs ≡ max_intervals) where
-  pub row_start : RowSoFar t n hs ws xs (replicate max_intervals (pos 0)) 0 n
+module _ (t : ℕ) (hs ws : List ℕ) (xs : List Interval) (few : length xs ≤ max_intervals) where
+  pub row_start : RowSoFar t hs ws xs (replicate max_intervals (pos 0)) 0 (length xs)
   unfolding spares_from debt_from
   row_start =
-      let d : drop n (take n xs) ≡ [] = back_start xs n (omega arith) in
+      let d : drop (length xs) xs ≡ [] = drop_of_length-le xs {i = length xs} (omega arith) in
       record {
         size = length-replicate max_intervals (pos 0);
         within = omega arith;
         owed = rw d;
         small = omega arith;
-        made = rw d (drop_replicate n max_intervals (pos 0));
+        made = rw d (drop_replicate (length xs) max_intervals (pos 0));
       }
 
   -- one interval more, the one at place j
-  pub row_more : (sums : List ℕ) (row : List ℤ) (debt j free ask debt' : ℕ) (z : ℤ) → RowSoFar t n hs ws xs row debt (suc j) → ByHome hs ws sums
+  row_more : (sums : List ℕ) (row : List ℤ) (debt j free ask debt' : ℕ) (z : ℤ) → RowSoFar t hs ws xs row debt (suc j) → ByHome hs ws sums
       → free ≡ room t (get_or xs j blank_interval) → ask ≡ asked t (get_or xs j blank_interval) (get_or sums j 0) debt → z ≡ sub_ℕ free ask → debt' ≡ ask - free
-      → RowSoFar t n hs ws xs (set row j z) debt' j
+      → RowSoFar t hs ws xs (set row j z) debt' j
   unfolding debt_from
   row_more sums row debt j free ask debt' z s b f a e q =
-      let here : drop j (take n xs) ≡ get_or xs j blank_interval ∷ drop (suc j) (take n xs) = taken_from xs n j blank_interval (omega arith) s.within in
+      let here : drop j xs ≡ get_or xs j blank_interval ∷ drop (suc j) xs = drop-cons xs j blank_interval (omega (arith, s.within)) in
       let work : get_or sums j 0 ≡ work_at j hs ws = sum_at hs ws sums j b.0 (omega (arith, s.within)) in
-      let asks : ask ≡ asked t (get_or xs j blank_interval) (work_at j hs ws) (debt_from t (suc j) (of_jobs hs ws) (drop (suc j) (take n xs))) = rw (a, work, s.owed) in
+      let asks : ask ≡ asked t (get_or xs j blank_interval) (work_at j hs ws) (debt_from t (suc j) (of_jobs hs ws) (drop (suc j) xs)) = rw (a, work, s.owed) in
       record {
         size = length-set row j z ∙ s.size;
         within = omega (arith, s.within);
@@ -186,14 +184,14 @@ module _ (t n : ℕ) (hs ws : List ℕ) (xs : List Interval) (few : n ≤ max_in
       }
 
   -- the same at the code's i - 1
-  pub row_turn : (sums : List ℕ) (row : List ℤ) (debt i free ask debt' : ℕ) (z : ℤ) → RowSoFar t n hs ws xs row debt i → 0 < i → ByHome hs ws sums
+  pub row_turn : (sums : List ℕ) (row : List ℤ) (debt i free ask debt' : ℕ) (z : ℤ) → RowSoFar t hs ws xs row debt i → 0 < i → ByHome hs ws sums
       → free ≡ room t (get_or xs (i - 1) blank_interval) → ask ≡ asked t (get_or xs (i - 1) blank_interval) (get_or sums (i - 1) 0) debt → z ≡ sub_ℕ free ask → debt' ≡ ask - free
-      → RowSoFar t n hs ws xs (set row (i - 1) z) debt' (i - 1)
+      → RowSoFar t hs ws xs (set row (i - 1) z) debt' (i - 1)
   row_turn sums row debt i free ask debt' z s p =
       let e : i ≡ suc (i - 1) = omega arith in
       row_more sums row debt (i - 1) free ask debt' z (rw (← e) s)
 
-  pub row_end : (row : List ℤ) (debt : ℕ) → RowSoFar t n hs ws xs row debt 0 → row ≡ filled max_intervals (pos 0) (spares_from t 0 hs ws (take n xs))
-  row_end row debt s =
-      let e : length (spares_from t 0 hs ws (take n xs)) ≡ n = length_spares t 0 hs ws (take n xs) ∙ length-take-le n xs (omega arith) in
-      rw e s.made
+  pub row_end : (row : List ℤ) (debt i : ℕ) → RowSoFar t hs ws xs row debt i → i ≡ 0 → row ≡ filled max_intervals (pos 0) (spares_from t 0 hs ws xs)
+  row_end row debt i s z =
+      let first : RowSoFar t hs ws xs row debt 0 = rw z at s in
+      rw (length_spares t 0 hs ws xs) first.made

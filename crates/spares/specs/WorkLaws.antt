@@ -1,6 +1,6 @@
 -- Laws of the work: how many numbers, one more stored, and the rows of a plan by its own layout.
 use Rattle.std.specs.Prelude.{ℕ, suc, ◌+◌, ◌-◌, ◌≤◌, ◌<◌, Bool, false, ◌≡◌, refl, pos, take, get_or, set, replicate, if◌then◌else◌}
-use Rattle.std.proofs.Common.{not-suc-le-zero, le_of_suc-le-suc, add-one, arith, sym, ◌∙◌, take-suc}
+use Rattle.std.proofs.Common.{not-suc-le-zero, le_of_suc-le-suc, add-one, arith, ◌∙◌, take-suc}
 use Rattle.std.proofs.Math.Bool.{true}
 use Rattle.std.proofs.Math.Path.{ap}
 use mathlib.Core.List.{List, [], ◌∷◌, ◌++◌}
@@ -8,18 +8,17 @@ use Rattle.std.proofs.Math.ListN.{length}
 use Rattle.std.proofs.Math.Seq.{length-take-le}
 use Rattle.std.proofs.lemmas.List.{set_at}
 use Rattle.words.specs.Words.{◌=?◌, filled}
-use Rattle.words.specs.ZipLaws.{zipped_length, zipped_at}
+use Rattle.words.specs.ZipLaws.{zipped_length}
 use Rattle.plan.specs.declared.Job.{Job}
 use Rattle.plan.specs.declared.Plan.{Plan}
 use Rattle.plan.specs.Limits.{max_jobs}
 use Rattle.plan.specs.Plan.{jobs_of}
 use Rattle.entries.specs.declared.Entry.{Entry}
-use Rattle.entries.specs.Entry.{live}
 use Rattle.intervals.specs.declared.Interval.{Interval}
 use Rattle.intervals.specs.declared.Layout.{Layout}
 use Rattle.intervals.specs.Intervals.{max_intervals, intervals}
 use Rattle.intervals.specs.Layout.{layout_of}
-use Rattle.spares.specs.Spares.{hi_left, lo_left, remaining, spares, row}
+use Rattle.spares.specs.Spares.{remaining, spares, row}
 use Rattle.spares.specs.InLayout.{row_in}
 use Rattle.spares.specs.InLayoutLaws.{row_of_layout}
 use Rattle.spares.specs.Work.{work_left, work_each, fresh_row, work_of, rows_in}
@@ -32,30 +31,10 @@ filled_next n z d i xs h l =
     let r : n - i ≡ suc (n - suc i) = omega arith in
     rw (add-one i, e, e', r, set_at (take i xs) z (replicate (n - suc i) z) (get_or xs i d) i e, take-suc xs i d h, mathlib.Core.List.append_assoc)
 
--- the work of one job at each level
-module _ (j : Job) (e : Entry) (b : Bool) (x : ℕ) (eb : b ≡ live e) where
-  pub left_hi : x ≡ hi_left j b e.given → x ≡ work_left true j e
-  unfolding work_left
-  left_hi p = p ∙ ap (λ (l : Bool). hi_left j l e.given) eb
-
-  pub left_lo : x ≡ lo_left j b e.given → x ≡ work_left false j e
-  unfolding work_left
-  left_lo p = p ∙ ap (λ (l : Bool). lo_left j l e.given) eb
-
 module _ (hi : Bool) (job : List Job) (entry : List Entry) (n : ℕ) (lj : n ≤ length job) (le : n ≤ length entry) where
   pub work_length : length (work_each hi (take n job) entry) ≡ n
   unfolding work_each
   work_length = zipped_length (work_left hi) job entry n lj le
-
-  work_at_lem : (i : ℕ) (j : Job) (e : Entry) → i < n → get_or (work_each hi (take n job) entry) i 0 ≡ work_left hi (get_or job i j) (get_or entry i e)
-  unfolding work_each
-  work_at_lem i j e h = zipped_at (work_left hi) job entry n lj le i j e 0 h
-
-  -- the work of job i + 1 is stored
-  pub work_turn : (i : ℕ) (j : Job) (e : Entry) (x : ℕ) (ws : List ℕ) → i < n → n ≤ max_jobs → ws ≡ filled max_jobs 0 (take i (work_each hi (take n job) entry)) → x ≡ work_left hi (get_or job i j) (get_or entry i e) → set ws i x ≡ filled max_jobs 0 (take (i + 1) (work_each hi (take n job) entry))
-  work_turn i j e x ws h few w p =
-      let l = work_length in
-      rw (w, p ∙ sym (work_at_lem i j e h)) (filled_next max_jobs 0 0 i (work_each hi (take n job) entry) (omega arith) (omega arith))
 
 -- a row looks at the work of its plan's jobs only
 remaining_front : (e : ℕ) (js : List Job) (ws zs : List ℕ) → length js ≤ length ws → remaining e js (ws ++ zs) ≡ remaining e js ws

@@ -1,41 +1,50 @@
--- Laws of reading and writing: what was moved fits, and however often a call is made, the bytes held stay.
-use Rattle.std.specs.Prelude.{ℕ, ◌+◌, ◌≤◌, ◌<◌, ◌≡◌, refl, List, length, take}
-use Rattle.std.proofs.Common.{arith, ◌∙◌, eq-eqb, ne_eqb}
-use Rattle.words.specs.Cases.{by_equal}
-use Rattle.streams.specs.declared.Came.{Came}
-use Rattle.streams.specs.declared.Came.TheVariants.{Bytes, Failed}
-use Rattle.streams.specs.declared.Tried.{Tried}
-use Rattle.streams.specs.Streams.{NoneMoved, MovedIn, TriedRead, brought_by, CameIn, ReadAfter}
+-- Which of the system's error numbers pass: EINTR is 4 and EAGAIN is 11, and no other.
+use Rattle.std.specs.Prelude.{ℕ, ◌≡◌, refl, Bool, true, false, not, ◌&&◌, ◌||◌, suc, List, [], ◌∷◌, pos, negsuc, int_lt, if◌then◌else◌}
+use Rattle.std.proofs.Common.{arith, eq-eqb, ne_eqb, ap, sym, ◌∙◌}
+use Rattle.std.proofs.lemmas.Bool.{false≢true, lt-leb}
+use Rattle.std.specs.IoError.{os_error_kind, os_error_kinds, kind_in}
+use Rattle.std.specs.declared.io.ErrorKind.{ErrorKind}
+use Rattle.std.specs.declared.io.ErrorKind.TheVariants.{Uncategorized}
+use Rattle.words.specs.Words.{◌=?◌}
+use Rattle.words.specs.Cases.{by_equal, by_test, both_hold}
+use Rattle.streams.specs.Streams.{passes}
 
--- ---- one call
+-- ---- a table of numbers and kinds
 
--- a call that moved nothing moved no more than there is room for
-pub failed_moved : (n most : ℕ) (r : Tried) → NoneMoved r → MovedIn n most r
-failed_moved n most (Tried.Moved more) none = absurd none
-failed_moved n most Tried.Again none = tt
-failed_moved n most Tried.Failed none = tt
+abbrev stays_broken : ℕ × ErrorKind → Bool
+stays_broken row = not (passes row.1) || (row.0 =? 4) || (row.0 =? 11)
 
-pub moved_fits : (n most more : ℕ) (r : Tried) → r ≡ Tried.Moved more → MovedIn n most r → n + more ≤ most
-moved_fits n most more r e m = rw e at m
+abbrev others_broken : List (ℕ × ErrorKind) → Bool
+others_broken [] = true
+others_broken (row ∷ rows) = stays_broken row && others_broken rows
 
--- ---- calls until one moves something or fails
+row_broken : (row : ℕ × ErrorKind) → stays_broken row ≡ true → (row.0 ≡ 4 → ⊥) → (row.0 ≡ 11 → ⊥) → passes row.1 ≡ false
+row_broken row h a b = by_test (passes row.1) (λ p. absurd (false≢true (rw (p, ne_eqb row.0 4 a, ne_eqb row.0 11 b) at h))) (λ p. p)
 
-pub brought_fits : (n most more : ℕ) → n + more ≤ most → CameIn n most (brought_by more)
-brought_fits n most more fits = by_equal more 0 (λ e. rw (eq-eqb more 0 e) tt) (λ e. rw (ne_eqb more 0 e) (omega arith, fits))
+not_in : (rows : List (ℕ × ErrorKind)) → others_broken rows ≡ true → (n : ℕ) → (n ≡ 4 → ⊥) → (n ≡ 11 → ⊥) → passes (kind_in rows n) ≡ false
+not_in [] h n a b = refl
+not_in (row ∷ rows) h n a b =
+    let both = both_hold (stays_broken row) (others_broken rows) h in
+    by_equal n row.0
+    (λ e. rw (eq-eqb n row.0 e) (row_broken row both.0 (rw e at a) (rw e at b)))
+    (λ e. rw (ne_eqb n row.0 e) (not_in rows both.1 n a b))
 
-pub came_fits : (n most more : ℕ) (r : Came) → r ≡ Bytes more → CameIn n most r → (0 < more) × (n + more ≤ most)
-came_fits n most more r e m = rw e at m
+-- ---- the system's
 
-module _ (n : ℕ) (before held after : List ℕ) (r : Tried) (stays : take n held ≡ take n before) (long : length held ≡ length before) (t : TriedRead n held r after) where
-  pub tried_failed : ReadAfter n before Failed after
-  tried_failed = record { stays = t.stays ∙ stays; long = t.long ∙ long; came = tt }
+not_below : (n : ℕ) → int_lt (pos n) (pos 0) ≡ false
+not_below n = lt-leb (suc n) 0 (omega arith)
 
-  pub tried_moved : (more : ℕ) (came : Came) → r ≡ Tried.Moved more → came ≡ brought_by more → ReadAfter n before came after
-  tried_moved more came e b =
-      let fits = moved_fits n (length held) more r e t.moved in
-      record { stays = t.stays ∙ stays; long = t.long ∙ long; came = rw b (brought_fits n (length before) more (omega arith)) }
+in_table : (n : ℕ) → os_error_kind (pos n) ≡ kind_in os_error_kinds n
+unfolding os_error_kind
+in_table n = ap (λ (b : Bool). if b then Uncategorized else kind_in os_error_kinds n) (not_below n)
 
--- ---- reads until there is no room or no more input
+pub passing_numbers : (n : ℕ) → passes (os_error_kind (pos n)) ≡ ((n =? 4) || (n =? 11))
+passing_numbers n =
+    ap passes (in_table n)
+    ∙ by_equal n 4
+    (λ e. rw e refl)
+    (λ a. by_equal n 11 (λ e. rw e refl) (λ b. not_in os_error_kinds refl n a b ∙ sym (rw (ne_eqb n 4 a, ne_eqb n 11 b) refl)))
 
-pub full_came : (n : ℕ) (before after : List ℕ) (came : Came) → length after ≡ length before → n ≤ length before → came ≡ brought_by n → ReadAfter 0 before came after
-full_came n before after came long fits b = record { stays = refl; long = long; came = rw b (brought_fits 0 (length before) n (omega arith)) }
+pub no_negative_passes : (n : ℕ) → passes (os_error_kind (negsuc n)) ≡ false
+unfolding os_error_kind
+no_negative_passes n = refl

@@ -20,54 +20,48 @@ fn small(slots: u16) -> Plan {
 }
 
 // How the record is written into `out`, and whether the first byte was touched.
-fn written(rt: &impl Print, name: &[u8], p: Plan, out: &mut [u8]) -> io::Result<()> {
-    let answer = plan_text::writer::write_plan(p, out);
-    print::answer(rt, name, answer)?;
-    if 0 < out.len() {
-        if out[0] == b'.' {
-            print::words(rt, b"  output as it was\n")?;
-        } else {
-            print::words(rt, b"  output written\n")?;
-        }
+fn written(rt: &impl Print, name: &str, p: Plan, out: &mut [u8]) -> io::Result<()> {
+    match plan_text::writer::write_plan(p, out) {
+        Ok(bytes) => println!(rt; "{name}: 0,{bytes}")?,
+        Err(refusal) => print::answer(rt, name, Err(refusal))?,
     }
-    Ok(())
+    match out.first() {
+        Some(b'.') => println!(rt; "  output as it was"),
+        Some(_) => println!(rt; "  output written"),
+        None => Ok(()),
+    }
 }
 
 pub(crate) fn limits(rt: &impl Print) -> io::Result<()> {
     let mut out = [b'.'; 100];
-    written(rt, b"write N = 0", small(0), &mut out)?;
-    written(rt, b"write N = 513", small(513), &mut out)?;
-    let mut p = small(2);
-    p.jobs = 0;
-    written(rt, b"write n = 0", p, &mut out)?;
-    p.jobs = 33;
-    written(rt, b"write n = 33", p, &mut out)
+    written(rt, "write N = 0", small(0), &mut out)?;
+    written(rt, "write N = 513", small(513), &mut out)?;
+    let p = small(2);
+    written(rt, "write n = 0", Plan { jobs: 0, ..p }, &mut out)?;
+    written(rt, "write n = 33", Plan { jobs: 33, ..p }, &mut out)
 }
 
 pub(crate) fn large_numbers(rt: &impl Print) -> io::Result<()> {
     let mut out = [b'.'; 100];
     let mut p = small(2);
     p.job[0].hi = 10000;
-    written(rt, b"write hi = 10000", p, &mut out)?;
+    written(rt, "write hi = 10000", p, &mut out)?;
     p.job[0].release = 65535;
-    written(rt, b"write release = 65535", p, &mut out)?;
+    written(rt, "write release = 65535", p, &mut out)?;
     let mut q = small(2);
     q.table[1] = 10000;
-    written(rt, b"write slot 1 = 10000", q, &mut out)
+    written(rt, "write slot 1 = 10000", q, &mut out)
 }
 
 // The text of the small plan with two slots has 69 bytes.
 pub(crate) fn room(rt: &impl Print) -> io::Result<()> {
-    let mut none: [u8; 0] = [];
-    written(rt, b"write into 0 bytes", small(2), &mut none)?;
-    let mut short = [b'.'; 68];
-    written(rt, b"write into 68 bytes", small(2), &mut short)?;
-    let mut fits = [b'.'; 69];
-    written(rt, b"write into 69 bytes", small(2), &mut fits)?;
+    written(rt, "write into 0 bytes", small(2), &mut [])?;
+    written(rt, "write into 68 bytes", small(2), &mut [b'.'; 68])?;
+    written(rt, "write into 69 bytes", small(2), &mut [b'.'; 69])?;
     let mut more = [b'.'; 70];
-    written(rt, b"write into 70 bytes", small(2), &mut more)?;
+    written(rt, "write into 70 bytes", small(2), &mut more)?;
     if more[69] == b'.' {
-        print::words(rt, b"  byte past the text as it was\n")?;
+        println!(rt; "  byte past the text as it was")?;
     }
     Ok(())
 }

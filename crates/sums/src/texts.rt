@@ -8,10 +8,16 @@ use std::io::{Eprint, Read};
 use std::rt::Files;
 
 // How the text is answered.
-fn text(rt: &impl Print, name: &[u8], s: &[u8]) -> io::Result<()> {
-    let read = plan_text::reader::read_plan(s);
-    let answer = read.answer;
-    print::answer(rt, name, answer)
+fn text(rt: &impl Print, name: &str, s: &[u8]) -> io::Result<()> {
+    print::answer(rt, name, plan_text::reader::read_plan(s).answer)
+}
+
+// How each text is answered, after its name.
+fn texts(rt: &impl Print, cases: &[(&str, &str)]) -> io::Result<()> {
+    for (name, s) in cases {
+        text(rt, name, s.as_bytes())?;
+    }
+    Ok(())
 }
 
 // The file's bytes from the start of the buffer on, until it is full, the file ends or a read fails: how many they are.
@@ -19,12 +25,8 @@ fn read_full<R: Read>(input: &mut R, buffer: &mut [u8]) -> usize
     ensures { result ≤ length buffer.new }
 {
     let mut n = 0;
-    while n < buffer.len() {
-        match input.read(&mut buffer[n..]) {
-            Ok(0) => return n,
-            Ok(more) => n += more,
-            Err(_) => return n,
-        }
+    while let Ok(more @ 1..) = input.read(&mut buffer[n..]) {
+        n += more;
     }
     n
 }
@@ -40,86 +42,86 @@ fn file(rt: &(impl Files + Print + Eprint), path: &str) -> io::Result<()> {
     };
     let mut buffer = [0u8; 65536];
     let n = read_full(&mut input, &mut buffer);
-    text(rt, path.as_bytes(), &buffer[..n])
+    text(rt, path, &buffer[..n])
 }
 
 pub(crate) fn limits(rt: &(impl Files + Print + Eprint)) -> io::Result<()> {
-    text(rt, b"empty text", b"")?;
-    text(rt, b"slots=08", b"slots=08\n")?;
-    text(rt, b"slots=0", b"slots=0\njobs=1\n")?;
-    text(rt, b"slots=513", b"slots=513\n")?;
-    text(rt, b"slots=513, no LF", b"slots=513")?;
-    text(rt, b"slots=513, then rubbish", b"slots=513\nrubbish")?;
-    text(rt, b"jobs=0", b"slots=4\njobs=0\n")?;
-    text(rt, b"jobs=33", b"slots=4\njobs=33\n")?;
-    text(rt, b"jobs=33, then rubbish", b"slots=4\njobs=33\nrubbish\n")?;
-    file(rt, "largest.plan")?;
-    file(rt, "largest_and_more.plan")?;
-    file(rt, "digits.plan")
-}
-
-pub(crate) fn bad_numbers(rt: &impl Print) -> io::Result<()> {
-    text(rt, b"five digits", b"slots=00008\n")?;
-    text(rt, b"five digits, no zero", b"slots=10000\n")?;
-    text(rt, b"plus sign", b"slots=+8\n")?;
-    text(rt, b"minus sign", b"slots=-8\n")?;
-    text(rt, b"blank before", b"slots= 8\n")?;
-    text(rt, b"blank after", b"slots=8 \n")?;
-    text(rt, b"empty value", b"slots=\n")?;
-    text(rt, b"letter", b"slots=8a\n")?;
-    text(rt, b"zero twice", b"slots=4\njobs=00\n")
-}
-
-pub(crate) fn bad_lines(rt: &impl Print) -> io::Result<()> {
-    text(rt, b"CRLF", b"slots=8\r\njobs=2\r\n")?;
-    text(rt, b"NUL", b"slots=8\n\0jobs=2\n")?;
-    text(rt, b"wrong key", b"slots=8\njob=2\n")?;
-    text(rt, b"repeated key", b"slots=8\nslots=8\n")?;
-    text(rt, b"key in capitals", b"SLOTS=8\n")?;
-    text(rt, b"no equals sign", b"slots8\n")?;
-    text(rt, b"empty line first", b"\nslots=8\n")?;
-    text(rt, b"empty line between", b"slots=8\n\njobs=2\n")?;
-    text(rt, b"level in lower case", b"slots=1\njobs=1\nlevel=hi\n")?;
-    text(rt, b"level of one letter", b"slots=1\njobs=1\nlevel=H\n")?;
-    text(
+    texts(
         rt,
-        b"a line missing",
-        b"slots=1\njobs=1\nlevel=HI\nrelease=0\nlo=1\n",
+        &[
+            ("empty text", ""),
+            ("slots=08", "slots=08\n"),
+            ("slots=0", "slots=0\njobs=1\n"),
+            ("slots=513", "slots=513\n"),
+            ("slots=513, no LF", "slots=513"),
+            ("slots=513, then rubbish", "slots=513\nrubbish"),
+            ("jobs=0", "slots=4\njobs=0\n"),
+            ("jobs=33", "slots=4\njobs=33\n"),
+            ("jobs=33, then rubbish", "slots=4\njobs=33\nrubbish\n"),
+        ],
     )?;
-    text(
-        rt,
-        b"smallest plan",
-        b"slots=1\njobs=1\nlevel=HI\nrelease=0\ndeadline=1\nlo=1\nhi=1\nslot=1\n",
-    )?;
-    text(
-        rt,
-        b"one byte more",
-        b"slots=1\njobs=1\nlevel=HI\nrelease=0\ndeadline=1\nlo=1\nhi=1\nslot=1\n\n",
-    )?;
-    text(
-        rt,
-        b"one slot more",
-        b"slots=1\njobs=1\nlevel=HI\nrelease=0\ndeadline=1\nlo=1\nhi=1\nslot=1\nslot=0\n",
-    )
-}
-
-// A text cut short is refused 1 at the line that is missing or unfinished.
-fn cut(rt: &impl Print, whole: &[u8], k: usize) -> io::Result<()> {
-    text(rt, b"cut", lines::reading::value(whole, 0, k))
-}
-
-fn cuts(rt: &impl Print, whole: &[u8]) -> io::Result<()> {
-    let mut k = 0;
-    while k < whole.len() {
-        cut(rt, whole, k)?;
-        k += 1;
+    for path in ["largest.plan", "largest_and_more.plan", "digits.plan"] {
+        file(rt, path)?;
     }
     Ok(())
 }
 
-pub(crate) fn cut_at_every_byte(rt: &impl Print) -> io::Result<()> {
-    cuts(
+pub(crate) fn bad_numbers(rt: &impl Print) -> io::Result<()> {
+    texts(
         rt,
-        b"slots=1\njobs=1\nlevel=LO\nrelease=0\ndeadline=1\nlo=1\nhi=1\nslot=0\n",
+        &[
+            ("five digits", "slots=00008\n"),
+            ("five digits, no zero", "slots=10000\n"),
+            ("plus sign", "slots=+8\n"),
+            ("minus sign", "slots=-8\n"),
+            ("blank before", "slots= 8\n"),
+            ("blank after", "slots=8 \n"),
+            ("empty value", "slots=\n"),
+            ("letter", "slots=8a\n"),
+            ("zero twice", "slots=4\njobs=00\n"),
+        ],
     )
+}
+
+pub(crate) fn bad_lines(rt: &impl Print) -> io::Result<()> {
+    texts(
+        rt,
+        &[
+            ("CRLF", "slots=8\r\njobs=2\r\n"),
+            ("NUL", "slots=8\n\0jobs=2\n"),
+            ("wrong key", "slots=8\njob=2\n"),
+            ("repeated key", "slots=8\nslots=8\n"),
+            ("key in capitals", "SLOTS=8\n"),
+            ("no equals sign", "slots8\n"),
+            ("empty line first", "\nslots=8\n"),
+            ("empty line between", "slots=8\n\njobs=2\n"),
+            ("level in lower case", "slots=1\njobs=1\nlevel=hi\n"),
+            ("level of one letter", "slots=1\njobs=1\nlevel=H\n"),
+            (
+                "a line missing",
+                "slots=1\njobs=1\nlevel=HI\nrelease=0\nlo=1\n",
+            ),
+            (
+                "smallest plan",
+                "slots=1\njobs=1\nlevel=HI\nrelease=0\ndeadline=1\nlo=1\nhi=1\nslot=1\n",
+            ),
+            (
+                "one byte more",
+                "slots=1\njobs=1\nlevel=HI\nrelease=0\ndeadline=1\nlo=1\nhi=1\nslot=1\n\n",
+            ),
+            (
+                "one slot more",
+                "slots=1\njobs=1\nlevel=HI\nrelease=0\ndeadline=1\nlo=1\nhi=1\nslot=1\nslot=0\n",
+            ),
+        ],
+    )
+}
+
+// A text cut short is refused 1 at the line that is missing or unfinished.
+pub(crate) fn cut_at_every_byte(rt: &impl Print) -> io::Result<()> {
+    let whole = b"slots=1\njobs=1\nlevel=LO\nrelease=0\ndeadline=1\nlo=1\nhi=1\nslot=0\n";
+    for k in 0..whole.len() {
+        text(rt, "cut", &whole[..k])?;
+    }
+    Ok(())
 }

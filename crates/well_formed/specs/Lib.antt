@@ -5,3 +5,4 @@ pub mod RunWords
 pub mod Parts
 pub mod RunLaws
 pub mod InOrderLaws
+pub mod PlaceLaws

@@ -1,5 +1,5 @@
 pub mod WindowSums
-pub mod Rising
 pub mod Overfull
+pub mod Rising
 pub mod RisingLaws
 pub mod OverfullLaws

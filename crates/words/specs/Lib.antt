@@ -10,3 +10,5 @@ pub mod PartLaws
 pub mod ZipLaws
 pub mod StoredLaws
 pub mod MemberLaws
+pub mod SumLaws
+pub mod MadeLaws

@@ -1,26 +1,20 @@
 -- `spares::row_of` meets its contract. The loop's invariant: the row from place i on is made, and the debt is that of the intervals from there on.
-use Prim.Native.Nat.{ℕ, ◌+◌, ◌≤◌, ◌<◌, ◌-◌, ◌*◌}
-use mathlib.Core.Path.{◌≡◌, ◌∙◌}
-use lib.ListN.{length, get_or, set}
-use mathlib.Core.List.{List}
-use native.Mathlib.Omega.{arith}
-use mir.Syntax.{w16, w32}
-use mir.Val.{Fits, to_z, of_z}
-use mir.Facts.{to_z-of_z}
-use borrow.Author.Rules.{rules}
+use Rattle.std.proofs.Common.{rules, arith, ◌≡◌, ◌≤◌, ◌<◌, ◌-◌, ◌∙◌, ℕ, length, get_or, Fits, w16, w32, to_z-of_z}
 use Rattle.words.specs.ListLaws.{long}
 use Rattle.plan.specs.Limits.{max_jobs}
 use Rattle.intervals.specs.Intervals.{max_intervals}
-use Rattle.intervals.specs.Layout.{blank_interval}
 use Rattle.spares.specs.InLayout.{row_in}
-use Rattle.words.specs.PartLaws.{take_min}
-use Rattle.spares.specs.Debt.{max_place_work, ByHome, RowSoFar}
-use Rattle.spares.specs.RowLaws.{by_home, row_start, row_turn, row_end, asked_most}
+use Rattle.spares.specs.Debt.{ByHome}
+use Rattle.spares.specs.DebtLaws.{listed_few}
+use Rattle.spares.specs.RowLaws.{by_home, row_start, row_turn, row_end}
 use Rattle.spares.proofs.row_of.Goals as goal
-use Rattle.spares.proofs.row_of.Goals.{After-asked_of-ask, After-over-debt, After-work_by_home-sums, Start}
+use Rattle.spares.proofs.row_of.Goals.{After-work_by_home-sums, Start}
 
-size : (c : Start) → length c.args.l.interval ≡ max_intervals
-size c = search (rules, long)
+-- the intervals fit the row
+few : (c : After-work_by_home-sums) → length c.before.listed-listed.result.now ≤ max_intervals
+few c =
+    let size : length c.before.before.args.l.interval ≡ max_intervals = search (rules, long) in
+    rw c.before.listed-listed.ensures (listed_few c.before.before.args.l size)
 
 -- the sums are those of the jobs, and small
 sums-of : (c : After-work_by_home-sums) → ByHome c.before.before.args.l.home c.before.before.args.work c.work_by_home-sums.result
@@ -29,52 +23,27 @@ sums-of c =
     by_home c.before.before.args.l.home c.before.before.args.work _ c.work_by_home-sums.ensures (search rules) (λ k h. omega (arith, (fits k h).fits))
 
 pub loop-i-init : goal.loop-i-init
-loop-i-init c =
-    (search rules, search rules, λ hs ws b. row_start c.args.t c.capped-i.result hs ws c.args.l.interval (search rules) (size (goal.at.loop-i-init c).Start))
+loop-i-init c = rw c.blank_row-row.ensures (row_start c.args.t c.args.l.home c.args.work c.listed-listed.result.now (few (goal.at.loop-i-init c).After-work_by_home-sums))
 
 pub asked_of-ask-requires : goal.asked_of-ask-requires
 asked_of-ask-requires c =
-    let l = c.loop-i in
-    omega (arith, (sums-of (goal.at.asked_of-ask-requires c).After-work_by_home-sums).1 (l.i - 1) (search rules))
-
-asks : (c : After-asked_of-ask) → c.asked_of-ask.result ≤ ((c.before.before.before.before.before.capped-i.result - c.before.before.before.before.loop-i.i) + 1) * max_place_work
-asks c =
-    let l = c.before.before.before.before.loop-i in
-    omega (
-      arith,
-      c.asked_of-ask.ensures,
-      asked_most c.before.before.before.before.before.before.before.before.before.args.t (get_or c.before.before.before.before.before.before.before.before.before.args.l.interval (l.i - 1) blank_interval) (get_or c.before.before.before.before.before.before.before.work_by_home-sums.result (l.i - 1) 0) l.debt,
-      (sums-of (c.before.before.before.before.before.before.before)).1 (l.i - 1) (search rules),
-    )
+    let h = few (goal.at.asked_of-ask-requires c).After-work_by_home-sums in
+    omega (arith, c.loop-i.invariant.small)
 
 pub signed-requires : goal.signed-requires
 signed-requires c =
-    (search rules, omega (arith, asks (goal.at.signed-requires c).After-asked_of-ask))
-
--- the row with the interval of this turn
-turn : (c : After-over-debt) (hs ws : List ℕ)
-    → ByHome hs ws c.before.before.before.before.before.before.before.before.before.work_by_home-sums.result
-    → RowSoFar c.before.before.before.before.before.before.before.before.before.before.before.args.t c.before.before.before.before.before.before.before.capped-i.result hs ws
-    c.before.before.before.before.before.before.before.before.before.before.before.args.l.interval
-    (set c.before.before.before.before.before.before.loop-i.row (c.before.before.before.before.before.before.loop-i.i - 1) (to_z w32 (of_z w32 c.before.signed.result)))
-    c.over-debt.result (c.before.before.before.before.before.before.loop-i.i - 1)
-turn c hs ws b =
-    let l = c.before.before.before.before.before.before.loop-i in
-    row_turn c.before.before.before.before.before.before.before.before.before.before.before.args.t c.before.before.before.before.before.before.before.capped-i.result hs ws c.before.before.before.before.before.before.before.before.before.before.before.args.l.interval (search rules) (size (c.before.before.before.before.before.before.before.before.before.before.before))
-    c.before.before.before.before.before.before.before.before.before.work_by_home-sums.result l.row l.debt l.i _ _ _ _ (l.invariant.2 hs ws b) (search rules) b
-    c.before.before.before.room_left-free.ensures.0 c.before.before.asked_of-ask.ensures
-    (to_z-of_z {w = w32} (search rules) ∙ c.before.signed.ensures) c.over-debt.ensures
+    let l = c.loop-i in
+    let h = few (goal.at.signed-requires c).After-work_by_home-sums in
+    (search rules, omega (arith, l.invariant.small, c.asked_of-ask.ensures.1, (sums-of (goal.at.signed-requires c).After-work_by_home-sums).1 (l.i - 1) (omega arith)))
 
 pub loop-i-preserved : goal.loop-i-preserved
 loop-i-preserved c =
-    let here = turn (goal.at.loop-i-preserved c).After-over-debt c.args.l.home c.args.work (sums-of (goal.at.loop-i-preserved c).After-work_by_home-sums) in
-    (here.within, here.small, turn (goal.at.loop-i-preserved c).After-over-debt)
+    let l = c.loop-i in
+    row_turn c.args.t c.args.l.home c.args.work c.listed-listed.result.now (few (goal.at.loop-i-preserved c).After-work_by_home-sums) c.work_by_home-sums.result l.row l.debt l.i _ _ _ _ l.invariant (omega arith) (sums-of (goal.at.loop-i-preserved c).After-work_by_home-sums)
+    c.room_left-free.ensures.0 c.asked_of-ask.ensures.0 (to_z-of_z {w = w32} (search rules) ∙ c.signed.ensures) c.saturating_sub-debt.ensures
 
 pub returns : goal.returns
 unfolding row_in
 returns c =
     let l = c.loop-i in
-    let z : l.i ≡ 0 = omega arith in
-    row_end c.args.t c.capped-i.result c.args.l.home c.args.work c.args.l.interval (search rules) (size (goal.at.returns c).Start) l.row l.debt
-    (rw z at (l.invariant.2 c.args.l.home c.args.work (sums-of (goal.at.returns c).After-work_by_home-sums)))
-    ∙ rw (c.capped-i.ensures, take_min c.args.l.count max_intervals c.args.l.interval (size (goal.at.returns c).Start))
+    rw (← c.listed-listed.ensures) (row_end c.args.t c.args.l.home c.args.work c.listed-listed.result.now (few (goal.at.returns c).After-work_by_home-sums) l.row l.debt l.i l.invariant (omega arith))

@@ -2,4 +2,4 @@
 use Rattle.console.proofs.run.fresh_console.Goals as goal
 
 pub returns : goal.returns
-returns c = rw c.blank_run-run.ensures
+returns c = rw c.blank_run.ensures

@@ -1,11 +1,11 @@
 -- `run::take_line` meets its promise: the wait for the line, a bad line, or the report on it.
-use mathlib.Core.Path.{refl, sym, ◌∙◌}
-use Rattle.console.specs.Turns.{told_is, told_quiet, line_waits, line_bad, line_steps}
+use mathlib.Core.Path.{sym, ◌∙◌}
+use Rattle.console.specs.Turns.{told_is, told_wait, line_waits, line_bad, line_steps}
 use Rattle.console.proofs.run.take_line.Goals as goal
 
 pub returns-then-not-line_ready : goal.returns-then-not-line_ready
 returns-then-not-line_ready c =
-    told_is (line_waits c.args.c c.args.text.now (sym c.line_ready.ensures ∙ c.if-not-line_ready.true)) (told_quiet _ _ _ refl c.waiting.ensures)
+    told_is (line_waits c.args.c c.args.text.now (sym c.line_ready.ensures ∙ c.if-not-line_ready.true)) (told_wait _ _)
 
 pub returns-in_default : goal.returns-in_default
 returns-in_default c =
@@ -13,4 +13,4 @@ returns-in_default c =
 
 pub returns : goal.returns
 returns c =
-    told_is (line_steps c.args.c c.args.text.now (sym c.line_ready.ensures ∙ c.if-not-line_ready.false) _ _ (sym c.in-Got.is ∙ c.report_field.ensures)) c.stepped.ensures
+    told_is (line_steps c.args.c c.args.text.now (sym c.line_ready.ensures ∙ c.if-not-line_ready.false) _ _ (sym c.in-Some.is ∙ c.report_field.ensures)) c.stepped.ensures

@@ -1,6 +1,6 @@
 -- `run::take_plan` meets its promise: the plan that is there, the wait for more of it, or its refusal.
-use mathlib.Core.Path.{refl, sym, ◌∙◌}
-use Rattle.console.specs.Turns.{told_is, told_quiet, plan_begins, plan_waits, plan_refused}
+use mathlib.Core.Path.{sym, ◌∙◌}
+use Rattle.console.specs.Turns.{told_is, told_wait, plan_begins, plan_waits, plan_refused}
 use Rattle.std.proofs.Common.{ap}
 use Rattle.std.specs.Prelude.{not}
 use Rattle.console.proofs.run.take_plan.Goals as goal
@@ -11,7 +11,7 @@ returns-then-is_accepted c =
 
 pub returns-then-not-is_final : goal.returns-then-not-is_final
 returns-then-not-is_final c =
-    told_is (plan_waits c.args.c c.args.text.now _ c.plan_prefix-prefix.ensures (sym c.is_accepted.ensures ∙ c.if-is_accepted.false) _ c.is_final.ensures (ap not c.if-not-is_final.true)) (told_quiet _ _ _ refl c.waiting.ensures)
+    told_is (plan_waits c.args.c c.args.text.now _ c.plan_prefix-prefix.ensures (sym c.is_accepted.ensures ∙ c.if-is_accepted.false) _ c.is_final.ensures (ap not c.if-not-is_final.true)) (told_wait _ _)
 
 pub returns : goal.returns
 returns c =

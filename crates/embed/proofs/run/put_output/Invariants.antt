@@ -1,9 +1,10 @@
 -- `run::put_output` meets its promise: the rest, put at the place, makes the output that has the whole.
+use Rattle.console.specs.SessionLaws.{todo}
 use Rattle.embed.specs.Rest.{Writing}
 use Rattle.embed.proofs.run.put_output.Given as goal
 
-abbrev pub invariant-loop-turns : goal.invariant-loop-turns
-invariant-loop-turns l = Writing l.text l.initial.out l.c l.at l.place l.turns l.out
+abbrev pub invariant-loop-turn : goal.invariant-loop-turn
+invariant-loop-turn l = Writing l.text l.fn.out l.c l.rest l.place l.out
 
-abbrev pub decreases-loop-turns : goal.decreases-loop-turns
-decreases-loop-turns l = l.turns
+abbrev pub decreases-loop-turn : goal.decreases-loop-turn
+decreases-loop-turn l = todo l.c l.rest

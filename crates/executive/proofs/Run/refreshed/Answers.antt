@@ -1,9 +1,9 @@
 -- `refreshed` meets its contract: both rows are the fresh ones.
+use Rattle.std.proofs.Common.{rules}
 use Rattle.words.specs.ListLaws.{long}
 use Rattle.executive.specs.MemberLaws.{Full}
 use Rattle.executive.specs.FreshLaws.{fresh_of_run}
 use Rattle.executive.specs.Step.{refreshed}
-use borrow.Author.Rules.{rules}
 use Rattle.executive.proofs.Run.refreshed.Goals as goal
 use Rattle.executive.proofs.Run.refreshed.Goals.{Start}
 
@@ -13,5 +13,5 @@ full c = record { few = c.requires.0; jobs = search (rules, long); entries = sea
 pub returns : goal.returns
 unfolding refreshed
 returns c =
-    let f = fresh_of_run c.args.self _ _ (full (goal.at.returns c).Start) c.requires.1 c.rows_of-rows.ensures in
+    let f = fresh_of_run c.args.self _ _ (full (goal.at.returns c).Start) c.requires.1 c.rows_of.ensures in
     rw (f.0, f.1)

@@ -1,11 +1,6 @@
 -- `spares::debt::work_by_home` meets its contract. The loop's invariant: a place's sum and the work still to come for it are all its work.
-use Prim.Native.Nat.{◌-◌}
-use Rattle.plan.specs.Limits.{max_jobs}
 use Rattle.spares.specs.Debt.{SumsSoFar}
 use Rattle.spares.proofs.debt.work_by_home.Given as goal
 
 abbrev pub invariant-loop-k : goal.invariant-loop-k
-invariant-loop-k l = SumsSoFar l.home l.work l.sums l.k
-
-abbrev pub decreases-loop-k : goal.decreases-loop-k
-decreases-loop-k l = max_jobs - l.k
+invariant-loop-k l = SumsSoFar l.fn.home l.work l.sums l.k

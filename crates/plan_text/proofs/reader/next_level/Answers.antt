@@ -1,6 +1,0 @@
--- `reader::next_level`: past the line of the field that was seen.
-use Rattle.plan_text.specs.WalkLaws.{field_past}
-use Rattle.plan_text.proofs.reader.next_level.Goals as goal
-
-pub returns : goal.returns
-returns c = field_past _ _ c.args.walk.now _ _ _ c.level_field-seen.ensures c.past.ensures

@@ -1,0 +1,175 @@
+-- Laws of the reader: a line taken is the definitions' field, and one reader goes on after the other.
+use Rattle.std.specs.Prelude.{ℕ, suc, ◌+◌, ◌-◌, drop, false, ◌*◌, ◌≤◌, ◌<◌, ◌≡◌, refl, Bool, true, List, length, set, replicate, Option, Some, None, Result, Ok, Err, is_ok}
+use borrow.Author.Tests.{lt-leb, le-leb, eq-eqb, ne_eqb}
+use Rattle.std.proofs.Common.{length-drop, arith, sym, ap, ◌∙◌, add-one, mul-suc, mul-le-mul_left}
+use Rattle.words.specs.Cases.{never}
+use Rattle.words.specs.Words.{filled, ◌=?◌}
+use Rattle.answers.specs.declared.Refusal.{Refusal}
+use Rattle.answers.specs.Answer.{Answer, accepted}
+use Rattle.lines.specs.Lines.{Read, got, refused, Reader, give, onward, ◌>>=◌, must, many, nothing_after}
+use Rattle.lines.specs.Reading.{field_at, standing, line_with}
+use Rattle.lines.specs.ReadingLaws.{field_got, field_refused}
+use Rattle.lines.specs.ManyLaws.{onward_filled, Filling, filling_starts, filling_on, filling_stops, filling_ends}
+use Rattle.plan.specs.declared.Plan.{Plan}
+use Rattle.plan_text.specs.Read.{next_plan, only_plan, read_plan}
+use Rattle.plan_text.specs.Reader.{stands, read_of, Reads, Taken, many_filled, last_line, plan_lines, plan_from, prefix_told, plan_told}
+use Rattle.plan_text.specs.declared.reader.Lines.{Lines}
+
+module _ {A : Type 0} (meaning : List ℕ → Option A) (key : List ℕ) (before after : Lines) (answer : Result A Refusal) where
+  -- what was found on the line is read
+  pub taken_reads : (found : Option (A × ℕ)) → Taken before found answer after → found ≡ field_at meaning before.text.now before.at key
+      → Reads (line_with meaning key) 1 before answer after
+  taken_reads (Some v) taken e =
+      let f = field_got meaning key before.text.now before.at before.line (before.line + 1) (omega arith) v e in
+      rw (taken.0, taken.1) (record { read = sym f.0; text = refl; lines = omega arith; within = λ ok. f.1 })
+  taken_reads None taken e =
+      rw (taken.0, taken.1)
+      (record { read = sym (field_refused meaning key before.text.now before.at before.line 0 e); text = refl; lines = omega arith; within = λ ok. absurd (never ok refl) })
+
+-- ---- one reader after the other, as `?` goes on
+
+module _ {A B : Type 0} (one : Reader A) (rest : A → Reader B) (k m : ℕ) {before between : Lines} {answer : Result A Refusal} (first : Reads one k before answer between) where
+  -- the first was read: what follows decides
+  pub goes_on : {a : A} → answer ≡ Ok a → {b : Result B Refusal} {after : Lines} → Reads (rest a) m between b after → Reads (one >>= rest) (k + m) before b after
+  goes_on {a} e then =
+      let r : got a (stands between) ≡ one (stands before) = rw e at first.read in
+      record { read = rw (← r) then.read; text = then.text ∙ first.text; lines = omega (arith, first.lines, then.lines); within = then.within }
+
+  -- the first was refused: so is the whole
+  pub stops : {e : Refusal} → answer ≡ Err e → Reads (one >>= rest) (k + m) before (Err e) between
+  stops {e} w =
+      let r : refused (Err e) ≡ one (stands before) = rw w at first.read in
+      record { read = rw (← r); text = first.text; lines = omega (arith, first.lines); within = λ ok. absurd (never ok refl) }
+
+-- a thing made of the last one read
+pub made : {A B : Type 0} (one : Reader A) (make : A → B) (k : ℕ) {before after : Lines} {answer : Result A Refusal} → Reads one k before answer after
+    → {a : A} → answer ≡ Ok a → Reads (one >>= (λ x. give (make x))) k before (Ok (make a)) after
+made one make k {before} {after} h {a} e =
+    let r : got a (stands after) ≡ one (stands before) = rw e at h.read in
+    record { read = rw (← r); text = h.text; lines = h.lines; within = λ ok. h.within (rw e) }
+
+-- at most so many lines
+pub wider : {A : Type 0} {one : Reader A} (k m : ℕ) {before after : Lines} {answer : Result A Refusal} → k ≤ m → Reads one k before answer after → Reads one m before answer after
+wider k m le h = record { read = h.read; text = h.text; lines = omega (arith, h.lines); within = h.within }
+
+-- an answer that must be accepted
+pub must_reads : (limit : Answer) {answer : Answer} (here : Lines) → answer ≡ limit → here.at ≤ length here.text.now → Reads (must limit) 0 here answer here
+unfolding accepted
+must_reads (Ok u) here e h = rw e (record { read = refl; text = refl; lines = omega arith; within = λ ok. h })
+must_reads (Err r) here e h = rw e (record { read = refl; text = refl; lines = omega arith; within = λ ok. h })
+
+-- a thing that takes no text
+pub given : {A : Type 0} (x : A) (here : Lines) → here.at ≤ length here.text.now → Reads (give x) 0 here (Ok x) here
+given x here h = record { read = refl; text = refl; lines = omega arith; within = λ ok. h }
+
+-- things read into an array: what goes on with the array goes on with the things
+module _ {A B : Type 0} (size : ℕ) (blank : A) (count : ℕ) (one : Reader A) (rest : List A → Reader B) (k m : ℕ)
+    {before between : Lines} {answer : Result (List A) Refusal} (first : Reads (many_filled size blank count one) k before answer between) where
+  abbrev whole : Reader B
+  whole = many count one >>= (λ xs. rest (filled size blank xs))
+
+  same : whole (stands before) ≡ (many_filled size blank count one >>= rest) (stands before)
+  same = onward_filled size blank (many count one (stands before)) rest
+
+  pub array_goes_on : {array : List A} → answer ≡ Ok array → {b : Result B Refusal} {after : Lines} → Reads (rest array) m between b after → Reads whole (k + m) before b after
+  array_goes_on e then =
+      let h = goes_on (many_filled size blank count one) rest k m first e then in
+      record { read = h.read ∙ sym same; text = h.text; lines = h.lines; within = h.within }
+
+  pub array_stops : {e : Refusal} → answer ≡ Err e → Reads whole (k + m) before (Err e) between
+  array_stops e =
+      let h = stops (many_filled size blank count one) rest k m first e in
+      record { read = h.read ∙ sym same; text = h.text; lines = h.lines; within = h.within }
+
+-- ---- things of one kind read into an array, `step` lines each
+
+module _ {A : Type 0} (one : Reader A) (step size : ℕ) (blank : A) (count : ℕ) (before : Lines) where
+  -- what holds at the loop's head
+  pub record Fills (array : List A) (here : Lines) (i : ℕ) : Type 0 where
+    pub filling : Filling one size blank count (stands before) array (stands here) i
+    pub text : here.text ≡ before.text
+    pub lines : here.line ≤ before.line + step * i
+    pub within : here.at ≤ length here.text.now
+
+  pub fills_start : before.at ≤ length before.text.now → Fills (replicate size blank) before 0
+  fills_start h = record { filling = filling_starts one size blank count (stands before); text = refl; lines = omega arith; within = h }
+
+  module _ (few : count ≤ size) (array : List A) (here there : Lines) (i : ℕ) (inv : Fills array here i) (more : i < count) (answer : Result A Refusal) (next : Reads one step here answer there) where
+    pub fills_on : (x : A) → answer ≡ Ok x → Fills (set array i x) there (i + 1)
+    fills_on x e =
+        let r : got x (stands there) ≡ one (stands here) = rw e at next.read in
+        let grown : step * (i + 1) ≡ step * i + step = rw add-one (mul-suc step i) in
+        record {
+          filling = filling_on one size blank count (stands before) few array (stands here) i inv.filling x (stands there) more (sym r);
+          text = next.text ∙ inv.text;
+          lines = omega (arith, inv.lines, next.lines, grown);
+          within = next.within (rw e);
+        }
+
+    pub fills_stop : {k : ℕ} → step * count ≡ k → {e : Refusal} → answer ≡ Err e → Reads (many_filled size blank count one) k before (Err e) there
+    fills_stop all {e} w =
+        let r : refused (Err e) ≡ one (stands here) = rw w at next.read in
+        let grown : step * (i + 1) ≡ step * i + step = rw add-one (mul-suc step i) in
+        let most : step * (i + 1) ≤ step * count = mul-le-mul_left step (omega arith) in
+        record {
+          read = sym (filling_stops one size blank count (stands before) few array (stands here) i inv.filling (Err e) more (sym r));
+          text = next.text ∙ inv.text;
+          lines = omega (arith, inv.lines, next.lines, grown, most, all);
+          within = λ ok. absurd (never ok refl);
+        }
+
+  pub fills_end : {k : ℕ} → step * count ≡ k → count ≤ size → (array : List A) (here : Lines) (i : ℕ) → Fills array here i → count ≤ i → Reads (many_filled size blank count one) k before (Ok array) here
+  fills_end every few array here i inv h =
+      let all : i ≡ count = omega (arith, inv.filling.low) in
+      record {
+        read = sym (filling_ends one size blank count (stands before) few array (stands here) i inv.filling h);
+        text = inv.text;
+        lines = rw (all, every) at inv.lines;
+        within = λ ok. inv.within;
+      }
+
+-- ---- the plan at a place of a text
+
+-- its lines would pass the last number
+pub told_late : (here : Lines) → last_line < here.line + plan_lines → prefix_told (Err (Refusal.Form here.line)) here ≡ plan_from here.text.now here.at here.line
+unfolding plan_from
+told_late here h = rw (lt-leb (here.line + plan_lines) last_line h)
+
+-- a plan that was read, or not
+pub told_plan : (before after : Lines) (answer : Result Plan Refusal) → before.line + plan_lines ≤ last_line → Reads next_plan plan_lines before answer after
+    → prefix_told answer after ≡ plan_from before.text.now before.at before.line
+unfolding plan_from
+told_plan before after (Ok plan) h r =
+    let there : after.at ≤ length before.text.now = rw r.text at r.within refl in
+    let n : length before.text.now - length (drop after.at after.text.now) ≡ after.at = rw r.text (omega (arith, length-drop after.at before.text.now)) in
+    rw (le-leb (before.line + plan_lines) last_line h, ← r.read, n)
+told_plan before after (Err e) h r = rw (le-leb (before.line + plan_lines) last_line h, ← r.read)
+
+-- ---- the plan and nothing after
+module _ (before after : Lines) (first : before.line ≡ 1) (start : before.at ≡ 0) where
+  pub whole_refused : {e : Refusal} {answer : Result Plan Refusal} → Reads next_plan plan_lines before answer after → answer ≡ Err e → plan_told (Err e) ≡ read_plan before.text.now
+  unfolding read_plan only_plan
+  whole_refused {e} r w =
+      let q : refused (Err e) ≡ next_plan (standing before.text.now 0 1) = rw (w, first, start) at r.read in
+      rw (← q)
+
+  module _ {plan : Plan} {answer : Result Plan Refusal} (r : Reads next_plan plan_lines before answer after) (w : answer ≡ Ok plan) where
+    was : got plan (stands after) ≡ next_plan (standing before.text.now 0 1)
+    was = rw (w, first, start) at r.read
+
+    rest : length (drop after.at after.text.now) ≡ length after.text.now - after.at
+    rest = length-drop after.at after.text.now
+
+    pub whole_more : after.at < length before.text.now → plan_told (Err (Refusal.Form after.line)) ≡ read_plan before.text.now
+    unfolding read_plan only_plan nothing_after accepted
+    whole_more h =
+        let l : after.at < length after.text.now = rw r.text h in
+        let n : (length (drop after.at after.text.now) =? 0) ≡ false = ne_eqb (length (drop after.at after.text.now)) 0 (λ z. omega (arith, rest)) in
+        rw (← was, n)
+
+    pub whole_is : length before.text.now ≤ after.at → plan_told (Ok plan) ≡ read_plan before.text.now
+    unfolding read_plan only_plan nothing_after accepted
+    whole_is h =
+        let l : length after.text.now ≤ after.at = rw r.text h in
+        let n : (length (drop after.at after.text.now) =? 0) ≡ true = eq-eqb (length (drop after.at after.text.now)) 0 (omega (arith, rest)) in
+        rw (← was, n)
