@@ -12,9 +12,8 @@ use Rattle.entries.specs.declared.Entry.{Entry}
 use Rattle.executive.specs.declared.Run.{Run}
 use Rattle.ready.specs.declared.Slot.{Slot}
 use Rattle.entries.specs.declared.Kind.{Kind}
-use Rattle.entries.specs.Entry.{live, fresh_entry, ran_on, expired_entry, past_lo, settled}
+use Rattle.entries.specs.Entry.{live, fresh_entry, expired_entry, past_lo, settled}
 use Rattle.executive.specs.Step.{reported, expired_entries, expired, overrun, every_settled, judged, refreshed, next_run}
-use Rattle.executive.specs.Sound.{Listed, Countable}
 
 -- one entry more has met its border
 expired_next : (t i : ℕ) (js : List Job) (es : List Entry) (j : Job) (e : Entry) → i < length js → i < length es → set (expired_entries t (take i js) es) i (expired_entry t (get_or js i j) (get_or (expired_entries t (take i js) es) i e)) ≡ expired_entries t (take (suc i) js) es
