@@ -22,7 +22,7 @@ pub(crate) struct Laid {
     pub ghost whole: { length layout.interval ≡ max_intervals },
 }
 
-// A border of its table, 0 to N, and the table slots of each job before it.
+// A border of the table of a laid plan, 0 to N, and the table slots of each job before it.
 #[derive(Clone, Copy)]
 struct Border<'a> {
     of: &'a Laid,

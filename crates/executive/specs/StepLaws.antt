@@ -1,12 +1,10 @@
 -- Laws of one step, for the loops over a run's jobs: entries that expire, the return test, work stored job by job.
-use Rattle.std.specs.Prelude.{ℕ, zero, suc, ◌+◌, ◌-◌, ◌≤◌, ◌<◌, Bool, true, false, ◌&&◌, ◌≡◌, refl, List, [], ◌∷◌, take, drop, get_or, set, if◌then◌else◌}
-use Rattle.std.proofs.Common.{not-suc-le-zero, le_of_suc-le-suc, ap, sym, ◌∙◌, drop_of_length-le, length-take-le}
+use Rattle.std.specs.Prelude.{ℕ, zero, suc, ◌+◌, ◌-◌, ◌≤◌, ◌<◌, Bool, true, false, ◌&&◌, ◌≡◌, refl, List, [], ◌∷◌, take, get_or, set}
+use Rattle.std.proofs.Common.{not-suc-le-zero, le_of_suc-le-suc, ap}
 use Rattle.std.proofs.lemmas.List.{get_or_past}
 use Rattle.std.proofs.Math.Numerals.{add-one}
 use Rattle.std.specs.List.{list_all, zip}
-use native.Mathlib.Omega.{arith}
 use Rattle.std.proofs.Math.ListN.{length}
-use Rattle.std.proofs.Math.Seq.{drop-cons}
 use Rattle.plan.specs.declared.Job.{Job}
 use Rattle.plan.specs.Plan.{blank_job}
 use Rattle.words.specs.Words.{◌≤?◌}
@@ -14,9 +12,8 @@ use Rattle.entries.specs.declared.Entry.{Entry}
 use Rattle.executive.specs.declared.Run.{Run}
 use Rattle.ready.specs.declared.Slot.{Slot}
 use Rattle.entries.specs.declared.Kind.{Kind}
-use Rattle.executive.specs.declared.Phase.{Phase}
 use Rattle.entries.specs.Entry.{live, fresh_entry, ran_on, expired_entry, past_lo, settled}
-use Rattle.executive.specs.Step.{reported, expired_entries, expired, overrun, every_settled, can_return, phase_after, judged, refreshed, next_run}
+use Rattle.executive.specs.Step.{reported, expired_entries, expired, overrun, every_settled, judged, refreshed, next_run}
 use Rattle.executive.specs.Sound.{Listed, Countable}
 
 -- one entry more has met its border

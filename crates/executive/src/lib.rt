@@ -1,7 +1,7 @@
 // The run of an accepted plan, slot by slot: start, coherence, choice, report, expiry, phase. Texts and programs are above.
 #![tactic(auto)]
 
-ghost use Rattle.std.specs.Prelude.{◌≡◌, OnOk, OnErr, Err};
+ghost use Rattle.std.specs.Prelude.{◌≡◌, IfOk, IfErr, Err};
 ghost use Rattle.answers.specs.Answer.{Accepted};
 ghost use Rattle.plan.specs.Plan.{jobs_of};
 ghost use Rattle.executive.specs.declared.Stepped.{Stepped};
@@ -151,8 +151,8 @@ impl Run {
 
     // The next run and the choice that was made, or 10 to 13.
     fn try_step(self, report: Report) -> Result<(Run, Choice), Refusal>
-        ensures stepped { OnOk result (λ s. ◌≡◌ {A = Stepped} (record { answer = Accepted; run = s.0; choice = s.1 }) (step self report)) }
-        ensures refused { OnErr result (λ e. refused_step self (Err e) ≡ step self report) }
+        ensures stepped { IfOk result (λ s. ◌≡◌ {A = Stepped} (record { answer = Accepted; run = s.0; choice = s.1 }) (step self report)) }
+        ensures refused { IfErr result (λ e. refused_step self (Err e) ≡ step self report) }
     {
         let going = self.going()?;
         if report.slot != self.t {

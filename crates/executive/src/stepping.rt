@@ -52,7 +52,10 @@ fn expired_entries(t: u16, job: &[Job], before: [Entry; JOBS]) -> [Entry; JOBS]
 fn every_settled(job: &[Job], entry: &[Entry], counts: &[u16]) -> bool
     ensures { result ≡ every_settled job.now entry.now counts.now }
 {
-    job.iter().zip(entry).zip(counts).all(|((j, e), count)| settled(*j, *e, *count))
+    job.iter()
+        .zip(entry)
+        .zip(counts)
+        .all(|((j, e), count)| settled(*j, *e, *count))
 }
 
 impl Run {
