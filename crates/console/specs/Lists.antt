@@ -2,7 +2,6 @@
 use Rattle.std.specs.Prelude.{ℕ, zero, suc, ◌+◌, ◌*◌, ◌≤◌, ◌<◌, min, ◌≡◌, refl, List, [], ◌∷◌, ◌++◌, ℤ, pos, get_or, take, drop, if◌then◌else◌, Ok, Err}
 use Rattle.std.proofs.Common.{add-one, le_of_suc-le-suc, arith, sym, ap, ◌∙◌, append-nil, append_assoc, take_all, le-leb}
 use Rattle.std.specs.Array.{IsFirstChunk}
-use Rattle.std.proofs.Math.Bool.{true, false}
 use Rattle.std.proofs.Math.ListN.{length}
 use Rattle.std.proofs.lemmas.Bool.{lt-leb}
 use Rattle.words.specs.Words.{◌≤?◌}

@@ -1,12 +1,12 @@
 -- What the console's functions answer: the event, written into the lent output; the step line by the choice; and their laws.
-use Rattle.std.specs.Prelude.{ℕ, ◌+◌, ◌≤◌, ◌<◌, ◌≡◌, Bool, not, List, [], ◌++◌, drop, Option, None, Some, IfSome, Ok, Err}
+use Rattle.std.specs.Prelude.{ℕ, ◌+◌, ◌≤◌, ◌<◌, ◌≡◌, Bool, List, [], ◌++◌, drop, Option, None, Some, IfSome, Ok, Err}
 use Rattle.std.specs.Array.{IsFirstChunk}
 use native.Mathlib.Omega.{arith}
 use Rattle.std.proofs.Math.Path.{refl, ap}
 use Rattle.std.proofs.Common.{sym, ◌∙◌}
 use Rattle.std.proofs.Math.Bool.{true, false}
 use Rattle.std.proofs.Math.ListN.{length}
-use borrow.Author.Tests.{lt-ltb, le-ltb, le-leb, lt-leb, eq-eqb, ne_eqb, not-true, not-false}
+use borrow.Author.Tests.{lt-ltb, le-ltb, le-leb, lt-leb, eq-eqb, ne_eqb}
 use Rattle.words.specs.Words.{◌≤?◌}
 use Rattle.words.specs.Cases.{by_test, never}
 use Rattle.answers.specs.declared.Refusal.{Refusal}
@@ -104,7 +104,25 @@ module _ (s : List ℕ) (p : PlanPrefix) (is : p ≡ plan_prefix s) where
   pub unread_none : (u : Unit {0}) → p.answer ≡ Ok u → [] ≡ unread_output (plan_prefix s)
   unread_none u h = let h' : (plan_prefix s).answer ≡ Ok u = rw is at h in rw (ok_accepted h')
 
+module _ (s : List ℕ) (x : Answer) (line : ℕ) (is : line ≡ first_place x) (t : Bool) (has : t ≡ (line ≤? lines_in s)) where
+  pub final_closed : t ≡ true → t ≡ is_final s x
+  unfolding is_final
+  final_closed h = rw (← is, ← has, h)
+
+  pub final_long : t ≡ false → (enough ≤? length s) ≡ is_final s x
+  unfolding is_final
+  final_long h = rw (← is, ← has, h)
+
 -- ---- a report line
+
+module _ (s : List ℕ) (k : ℕ) (ends : k ≡ 0 + line_length (drop 0 s)) where
+  pub ready_closed : k < length s → true ≡ line_ready s
+  unfolding line_ready
+  ready_closed h = rw (lt-ltb (line_length s) (length s) (omega arith))
+
+  pub ready_long : length s ≤ k → (longest_report ≤? length s) ≡ line_ready s
+  unfolding line_ready
+  ready_long h = rw (le-ltb (line_length s) (length s) (omega arith))
 
 module _ (c : Console) (s : List ℕ) where
   pub line_waits : line_ready s ≡ false → waits c ≡ line_event c s
