@@ -2,11 +2,11 @@
 // The text is in plan_text, the judgement of a whole plan in acceptance.
 #![tactic(auto)]
 
-ghost use Rattle.std.specs.Prelude.{◌≡◌, map, ◌<◌};
+ghost use Rattle.std.specs.Prelude.{◌≡◌, map, length, ◌≤◌, ◌<◌};
 ghost use Rattle.words.specs.Words.{every};
 ghost use Rattle.answers.specs.Answer.{SlotLimit, JobLimit, ◌unless◌};
 ghost use Rattle.plan.specs.Limits.{max_slots, max_jobs, one_to};
-ghost use Rattle.plan.specs.Plan.{blank_job, blank_plan, is_hi, counts_at};
+ghost use Rattle.plan.specs.Plan.{blank_job, blank_plan, jobs_of, is_hi, counts_at};
 ghost use Rattle.plan.specs.Rules.{window_holds, budget_holds, windows_hold};
 ghost use Rattle.plan.specs.Counts.{counted_with};
 
@@ -76,6 +76,14 @@ pub fn blank_plan() -> Plan
     }
 }
 
+// The first n jobs; of a record with a larger n all that it has.
+pub fn jobs_of(p: &Plan) -> &[Job]
+    ensures jobs { result.now ≡ jobs_of p.now }
+    ensures few { length result.now ≤ max_jobs }
+{
+    &p.job[..JOBS.min(usize::from(p.jobs))]
+}
+
 // n is 1 to the limit.
 fn one_to(limit: usize, n: u16) -> bool
     ensures { result ≡ one_to limit n }
@@ -133,9 +141,7 @@ fn every_window(jobs: &[Job], slots: u16) -> bool
 pub fn windows_hold(p: Plan) -> bool
     ensures { result ≡ windows_hold p }
 {
-    one_to(SLOTS, p.slots)
-        && one_to(JOBS, p.jobs)
-        && every_window(&p.job[..usize::from(p.jobs)], p.slots)
+    one_to(SLOTS, p.slots) && one_to(JOBS, p.jobs) && every_window(jobs_of(&p), p.slots)
 }
 
 // The counts with one more for job k.
