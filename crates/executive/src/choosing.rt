@@ -30,7 +30,7 @@ impl Going {
     fn chosen_t(self) -> Slot
         ensures { result ≡ chosen_t self.run }
     {
-        let r = self.run;
+        let r = &self.run;
         let k = r.plan.table[usize::from(r.t)];
         if has_slot(k, r.entry[index(k)]) {
             return Slot::Job(k);
@@ -42,7 +42,7 @@ impl Going {
     fn chosen_h(self) -> Slot
         ensures { result ≡ chosen_h self.run }
     {
-        let r = self.run;
+        let r = &self.run;
         if open_to_all(self.hi, self.lo) {
             return earliest(r.plan.job, self.ready);
         }

@@ -48,7 +48,7 @@ impl Run {
             return None;
         }
         let layout = intervals::layout_of(self.plan);
-        let fresh = spares::rows_of(layout, self.t, self.plan.job, self.entry, self.plan.jobs);
+        let fresh = self.refreshed(layout);
         if !spares::same_row(self.hi, fresh.hi) {
             return None;
         }

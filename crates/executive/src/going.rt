@@ -41,15 +41,12 @@ impl Run {
         if self.plan.slots <= self.t {
             return Err(Refusal::Over(self.t));
         }
-        let hi = spares::current(layout, self.t, self.hi);
-        let lo = spares::current(layout, self.t, self.lo);
-        let ready = ready_set(false, self.t, self.plan.job, self.entry, self.plan.jobs);
         Ok(Going {
             run: self,
             layout,
-            hi,
-            lo,
-            ready,
+            hi: spares::current(layout, self.t, self.hi),
+            lo: spares::current(layout, self.t, self.lo),
+            ready: ready_set(false, self.t, self.plan.job, self.entry, self.plan.jobs),
         })
     }
 }

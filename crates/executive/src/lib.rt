@@ -74,16 +74,13 @@ pub struct Stepped {
 pub fn blank_run() -> Run
     ensures { result ≡ blank_run }
 {
-    let hi = spares::blank_row();
-    let lo = spares::blank_row();
-    let entry = entries::fresh_entries();
     Run {
         plan: plan::blank_plan(),
         t: 0,
         phase: Phase::T,
-        hi,
-        lo,
-        entry,
+        hi: spares::blank_row(),
+        lo: spares::blank_row(),
+        entry: entries::fresh_entries(),
     }
 }
 
@@ -98,14 +95,13 @@ pub fn start(p: Plan) -> Started
             run: blank_run(),
         };
     }
-    let entry = entries::fresh_entries();
     let run = Run {
         plan: p,
         t: 0,
         phase: Phase::T,
         hi,
         lo,
-        entry,
+        entry: entries::fresh_entries(),
     };
     Started { answer, run }
 }

@@ -83,8 +83,10 @@ impl Run {
     fn expired(self) -> Run
         ensures { result ≡ expired self }
     {
-        let entry = expired_entries(self.t, self.jobs(), self.entry);
-        Run { entry, ..self }
+        Run {
+            entry: expired_entries(self.t, self.jobs(), self.entry),
+            ..self
+        }
     }
 
     // The reported HI job is live and has had its lo.

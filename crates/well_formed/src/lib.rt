@@ -8,8 +8,7 @@ ghost use Rattle.words.specs.Words.{◌≤?◌, ◌<?◌, ◌=?◌};
 ghost use Rattle.answers.specs.Answer.{Accepted};
 ghost use Rattle.plan.specs.Limits.{max_slots, max_jobs};
 ghost use Rattle.plan.specs.Plan.{blank_job, slots_of, counts_at};
-ghost use Rattle.well_formed.specs.WellFormed.{check6, well_formed};
-ghost use Rattle.well_formed.specs.Parts.{windows_from, budgets_from, counts_from, chopped_from};
+ghost use Rattle.well_formed.specs.WellFormed.{check4, check5, check6, check7, check17, well_formed};
 ghost use Rattle.well_formed.specs.RunWords.{no_runs, runs_with, runs_from};
 
 use answers::{Answer, Refusal};
@@ -31,23 +30,23 @@ fn refused<R: Fn(u16) -> Refusal>(place: Option<usize>, refusal: R) -> Answer
 }
 
 // 4: the first of the jobs whose window breaks r < d <= N.
-fn check4(jobs: &[Job], slots: u16) -> Answer
-    requires { length jobs.now ≤ max_jobs }
-    ensures { result ≡ windows_from slots jobs.now }
+fn check4(p: &Plan) -> Answer
+    ensures { result ≡ check4 p.now }
 {
+    let jobs = plan::first_jobs(&p.job, p.jobs);
     refused(
-        jobs.iter().position(|j| !plan::window_holds(slots, *j)),
+        jobs.iter().position(|j| !plan::window_holds(p.slots, *j)),
         Refusal::Window,
     )
 }
 
 // 5: the first of the jobs that breaks a budget rule.
-fn check5(jobs: &[Job], slots: u16) -> Answer
-    requires { length jobs.now ≤ max_jobs }
-    ensures { result ≡ budgets_from slots jobs.now }
+fn check5(p: &Plan) -> Answer
+    ensures { result ≡ check5 p.now }
 {
+    let jobs = plan::first_jobs(&p.job, p.jobs);
     refused(
-        jobs.iter().position(|j| !plan::budget_holds(slots, *j)),
+        jobs.iter().position(|j| !plan::budget_holds(p.slots, *j)),
         Refusal::Budget,
     )
 }
@@ -86,7 +85,7 @@ fn check6(p: &Plan) -> Result<Scanned, Refusal>
     requires { (p.now.slots ≤ max_slots) × (p.now.jobs ≤ max_jobs) }
     ensures { MatchResult result (λ s. (check6 p.now ≡ Accepted) × (s.counts ≡ counts_at p.now p.now.slots) × (s.runs ≡ runs_from 0 no_runs (slots_of p.now))) (λ e. check6 p.now ≡ Err e) }
 {
-    let jobs = &p.job[..usize::from(p.jobs)];
+    let jobs = plan::first_jobs(&p.job, p.jobs);
     let mut counts = [0; plan::JOBS];
     let mut runs = [0; plan::JOBS];
     let mut before = 0;
@@ -102,11 +101,11 @@ fn check6(p: &Plan) -> Result<Scanned, Refusal>
     Ok(Scanned { counts, runs })
 }
 
-// 7: the first of the jobs whose table slots are not lo in number.
-fn check7(jobs: &[Job], counts: [u16; plan::JOBS]) -> Answer
-    requires { length jobs.now ≤ max_jobs }
-    ensures { result ≡ counts_from counts jobs.now }
+// 7: the first of the jobs whose table slots are not lo in number, by the counts of the whole table.
+fn check7(p: &Plan, counts: [u16; plan::JOBS]) -> Answer
+    ensures { counts ≡ counts_at p.now p.now.slots → result ≡ check7 p.now }
 {
+    let jobs = plan::first_jobs(&p.job, p.jobs);
     refused(
         jobs.iter()
             .zip(counts.iter())
@@ -115,11 +114,12 @@ fn check7(jobs: &[Job], counts: [u16; plan::JOBS]) -> Answer
     )
 }
 
-// 17: the first of the jobs with more than four runs.
-fn check17(runs: &[u16]) -> Answer
-    requires { length runs.now ≤ max_jobs }
-    ensures { result ≡ chopped_from runs.now }
+// 17: the first of the jobs with more than four runs, by the runs of the whole table.
+fn check17(p: &Plan, runs: [u16; plan::JOBS]) -> Answer
+    requires { p.now.slots ≤ max_slots }
+    ensures { runs ≡ runs_from 0 no_runs (slots_of p.now) → result ≡ check17 p.now }
 {
+    let runs = &runs[..plan::first_jobs(&p.job, p.jobs).len()];
     refused(runs.iter().position(|n| MAX_RUNS < *n), Refusal::Chopped)
 }
 
@@ -129,11 +129,9 @@ pub fn well_formed(p: Plan) -> Answer
 {
     plan::slot_limit(p.slots)?;
     plan::job_limit(p.jobs)?;
-    let n = usize::from(p.jobs);
-    let jobs = &p.job[..n];
-    check4(jobs, p.slots)?;
-    check5(jobs, p.slots)?;
+    check4(&p)?;
+    check5(&p)?;
     let scanned = check6(&p)?;
-    check7(jobs, scanned.counts)?;
-    check17(&scanned.runs[..n])
+    check7(&p, scanned.counts)?;
+    check17(&p, scanned.runs)
 }

@@ -11,4 +11,4 @@ returns-then-is_err c = rw c.blank_run.ensures (start_refused c.args.p _ c.analy
 
 pub returns : goal.returns
 unfolding accepted
-returns c = rw c.fresh_entries-entry.ensures (start_made c.args.p _ c.analysis_of-answer.ensures (c.is_err.ensures.negation ∙ ap not c.if-is_err.false))
+returns c = rw c.fresh_entries.ensures (start_made c.args.p _ c.analysis_of-answer.ensures (c.is_err.ensures.negation ∙ ap not c.if-is_err.false))

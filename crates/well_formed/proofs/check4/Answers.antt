@@ -6,11 +6,14 @@ use borrow.Author.Rules.{rules}
 use borrow.Author.Tests.{tests}
 use Rattle.answers.specs.declared.Refusal.{Refusal}
 use Rattle.plan.specs.Rules.{window_holds}
+use Rattle.well_formed.specs.WellFormed.{check4}
 use Rattle.well_formed.specs.PlaceLaws.{told_at}
 use Rattle.well_formed.proofs.check4.Goals as goal
 
 pub returns : goal.returns
+unfolding check4
 returns c =
-    told_at Refusal.Window (window_holds c.args.slots) _ (λ i e k. search rules) c.args.jobs.now c.position.result _
-    (position_from_yields_List (λ j. not (window_holds c.args.slots j)) _ _ c.position.result c.position.ensures.ran (YieldsList-from_slice c.args.jobs.now cc) (λ x b q k. search (rules, tests)))
-    c.refused.ensures
+    rw (← c.first_jobs-jobs.ensures.all)
+    (told_at Refusal.Window (window_holds c.args.p.now.slots) _ (λ i e k. search rules) c.first_jobs-jobs.result.now c.position.result _
+    (position_from_yields_List (λ j. not (window_holds c.args.p.now.slots j)) _ _ c.position.result c.position.ensures.ran (YieldsList-from_slice c.first_jobs-jobs.result.now cc) (λ x b q k. search (rules, tests)))
+    c.refused.ensures)

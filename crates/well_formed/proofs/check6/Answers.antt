@@ -1,5 +1,5 @@
 -- `check6` meets its contract: the answer from slot t on is the whole answer, and the counts are those of border t.
-use Rattle.std.proofs.Common.{arith, ℕ, ◌≡◌, ◌≤◌, ◌<◌, ◌-◌, ◌+◌, List, length, take, drop, get_or, refl, sym, ap, ◌∙◌, length-take-le, get_or-take}
+use Rattle.std.proofs.Common.{arith, ℕ, ◌≡◌, ◌≤◌, ◌<◌, ◌-◌, ◌+◌, List, length, drop, get_or, refl, sym, ap, ◌∙◌, length-take-le, get_or-take}
 use Rattle.std.specs.Prelude.{Bool, ◌&&◌, ◌||◌}
 use borrow.Author.Rules.{rules}
 use borrow.Author.Tests.{lt-leb, eq-eqb}
@@ -8,9 +8,10 @@ use Rattle.words.specs.Cases.{by_less}
 use Rattle.words.specs.ListLaws.{long}
 use Rattle.answers.specs.declared.Refusal.{Refusal}
 use Rattle.answers.specs.SliceLaws.{slice_keeps, slice_breaks, slice_ends}
+use Rattle.plan.specs.declared.Job.{Job}
 use Rattle.plan.specs.declared.Plan.{Plan}
 use Rattle.plan.specs.Limits.{max_slots, max_jobs}
-use Rattle.plan.specs.Plan.{blank_job, slots_of, counts_at}
+use Rattle.plan.specs.Plan.{blank_job, jobs_of, slots_of, counts_at}
 use Rattle.plan.specs.Counts.{counted_with}
 use Rattle.plan.specs.CountLaws.{counts_start, counts_on}
 use Rattle.well_formed.specs.WellFormed.{slot_holds, check6}
@@ -19,36 +20,36 @@ use Rattle.well_formed.specs.RunLaws.{runs_on, runs_end}
 use Rattle.well_formed.proofs.check6.Invariants.{judge}
 use Rattle.well_formed.proofs.check6.Goals as goal
 
--- the entry of slot t judged by the first n jobs is the rule of slot t
-holds : (p : Plan) (n t k : ℕ) → n ≡ p.jobs → p.jobs ≤ length p.job
-    → ((k =? 0) || ((k ≤? length (take n p.job)) && ((get_or (take n p.job) (k - 1) blank_job).release ≤? t) && (t <? (get_or (take n p.job) (k - 1) blank_job).deadline))) ≡ slot_holds p t k
+-- the entry of slot t judged by the plan's jobs is the rule of slot t
+holds : (p : Plan) (t k : ℕ) → p.jobs ≤ length p.job
+    → ((k =? 0) || ((k ≤? length (jobs_of p)) && ((get_or (jobs_of p) (k - 1) blank_job).release ≤? t) && (t <? (get_or (jobs_of p) (k - 1) blank_job).deadline))) ≡ slot_holds p t k
 unfolding slot_holds
-holds p n t k e few =
-    let size : length (take n p.job) ≡ p.jobs = length-take-le n p.job (omega arith) ∙ e in
+holds p t k few =
+    let size : length (jobs_of p) ≡ p.jobs = length-take-le p.jobs p.job few in
     by_less p.jobs k
     (λ above. rw (size, lt-leb k p.jobs above))
     (λ among. by_less k 1
     (λ none. rw (eq-eqb k 0 (omega arith)))
-    (λ one. rw (size, get_or-take n p.job (k - 1) blank_job (omega arith))))
+    (λ one. rw (size, get_or-take p.jobs p.job (k - 1) blank_job (omega arith))))
 
--- slot t of a plan within its limits, with i its place in the table and n the number of jobs
-record Turn (p : Plan) (t i n : ℕ) : Type 0 where
+-- slot t of a plan within its limits, with i its place in the table and js the plan's jobs
+record Turn (p : Plan) (t i : ℕ) (js : List Job) : Type 0 where
   place : i ≡ t
-  jobs : n ≡ p.jobs
+  jobs : js ≡ jobs_of p
   all_jobs : length p.job ≡ max_jobs
   all_slots : length p.table ≡ max_slots
   limits : (p.slots ≤ max_slots) × (p.jobs ≤ max_jobs)
   one_left : t < p.slots
 
-module _ (p : Plan) (t i n : ℕ) (h : Turn p t i n) where
+module _ (p : Plan) (t i : ℕ) (js : List Job) (h : Turn p t i js) where
   within : t < length (slots_of p)
   within = let m : length (slots_of p) ≡ p.slots = length-take-le p.slots p.table (omega arith) in omega arith
 
   entry : get_or p.table i 0 ≡ get_or (slots_of p) t 0
   entry = rw h.place (sym (get_or-take p.slots p.table t 0 h.one_left))
 
-  tested : (b : Bool) → b ≡ ((get_or p.table i 0 =? 0) || ((get_or p.table i 0 ≤? length (take n p.job)) && ((get_or (take n p.job) (get_or p.table i 0 - 1) blank_job).release ≤? t) && (t <? (get_or (take n p.job) (get_or p.table i 0 - 1) blank_job).deadline))) → slot_holds p t (get_or (slots_of p) t 0) ≡ b
-  tested b q = rw (← entry) (sym (q ∙ holds p n t (get_or p.table i 0) h.jobs (omega arith)))
+  tested : (b : Bool) → b ≡ ((get_or p.table i 0 =? 0) || ((get_or p.table i 0 ≤? length js) && ((get_or js (get_or p.table i 0 - 1) blank_job).release ≤? t) && (t <? (get_or js (get_or p.table i 0 - 1) blank_job).deadline))) → slot_holds p t (get_or (slots_of p) t 0) ≡ b
+  tested b q = rw (← entry) (sym (q ∙ rw h.jobs (holds p t (get_or p.table i 0) (omega (arith, h.all_jobs, h.limits.1)))))
 
   counts_next : (counts : List ℕ) → counts ≡ counts_at p t → counted_with counts (get_or p.table i 0) ≡ counts_at p (t + 1)
   counts_next counts e = rw h.place (counts_on p t counts e (omega arith) (omega arith))
@@ -64,8 +65,8 @@ unfolding check6
 returns-then-not-entry_holds c =
     let p = c.args.p.now in
     let t = c.loop-t.t in
-    let h : Turn c.args.p.now c.loop-t.t c.from-in-loop-t.result c.from.result =
-    record { place = c.from-in-loop-t.ensures; jobs = c.from.ensures; all_jobs = search (rules, long); all_slots = search rules; limits = c.requires; one_left = c.loop-t-test.true }
+    let h : Turn c.args.p.now c.loop-t.t c.from.result c.first_jobs-jobs.result.now =
+    record { place = c.from.ensures; jobs = c.first_jobs-jobs.ensures.all; all_jobs = search (rules, long); all_slots = search rules; limits = c.requires; one_left = c.loop-t-test.true }
     in
     sym
     (slice_breaks (λ s k. Refusal.TableSlot s) (slot_holds p) (slots_of p) t t 0 (within _ _ _ _ h) (tested _ _ _ _ h _ c.entry_holds.ensures ∙ c.if-not-entry_holds.true)
@@ -75,8 +76,8 @@ pub loop-t-preserved : goal.loop-t-preserved
 loop-t-preserved c =
     let p = c.args.p.now in
     let t = c.loop-t.t in
-    let h : Turn c.args.p.now c.loop-t.t c.from-in-loop-t.result c.from.result =
-    record { place = c.from-in-loop-t.ensures; jobs = c.from.ensures; all_jobs = search (rules, long); all_slots = search rules; limits = c.requires; one_left = c.loop-t-test.true }
+    let h : Turn c.args.p.now c.loop-t.t c.from.result c.first_jobs-jobs.result.now =
+    record { place = c.from.ensures; jobs = c.first_jobs-jobs.ensures.all; all_jobs = search (rules, long); all_slots = search rules; limits = c.requires; one_left = c.loop-t-test.true }
     in
     record {
       counted = c.count_slot.ensures ∙ counts_next _ _ _ _ h _ c.loop-t.invariant.counted;

@@ -11,7 +11,10 @@ use Rattle.words.specs.Words.{◌=?◌}
 use Rattle.answers.specs.declared.Refusal.{Refusal}
 use Rattle.answers.specs.Answer.{accepted, ◌unless◌, first_refusal}
 use Rattle.plan.specs.declared.Job.{Job}
+use Rattle.plan.specs.Limits.{max_jobs}
+use Rattle.plan.specs.Plan.{jobs_of}
 use Rattle.well_formed.specs.PlaceLaws.{told_at}
+use Rattle.well_formed.proofs.Laws.{counts_rule}
 use Rattle.well_formed.proofs.check7.Goals as goal
 
 -- each job beside its count is each job with the count at its place
@@ -24,8 +27,11 @@ beside counts i (j ∷ jobs) l =
     rw (drop-cons counts i 0 (omega arith), beside counts (suc i) jobs (omega arith), place)
 
 pub returns : goal.returns
-returns c =
-    told_at Refusal.TableCount (λ (x : Job × ℕ). x.1 =? x.0.lo) _ (λ i e k. search rules) (zip c.args.jobs.now c.args.counts) c.position.result _
-    (position_from_yields_List (λ (x : Job × ℕ). not (x.1 =? x.0.lo)) c.position.new.self _ c.position.result c.position.ensures.ran (YieldsList-from_zip (YieldsList-at c.zip.ensures.first (YieldsList-from_slice c.args.jobs.now cc)) (YieldsList-at c.zip.ensures.second (YieldsList-from_slice c.args.counts cc))) (λ x b q k. search (rules, tests)))
+returns c e =
+    let jobs : c.first_jobs-jobs.result.now ≡ jobs_of c.args.p.now = c.first_jobs-jobs.ensures.all in
+    let few : length (jobs_of c.args.p.now) ≤ max_jobs = rw jobs at c.first_jobs-jobs.ensures.few in
+    told_at Refusal.TableCount (λ (x : Job × ℕ). x.1 =? x.0.lo) _ (λ i e k. search rules) (zip (jobs_of c.args.p.now) c.args.counts) c.position.result _
+    (position_from_yields_List (λ (x : Job × ℕ). not (x.1 =? x.0.lo)) c.position.new.self _ c.position.result c.position.ensures.ran (YieldsList-from_zip (YieldsList-at c.zip.ensures.first (YieldsList-from_slice (jobs_of c.args.p.now) cc)) (YieldsList-at c.zip.ensures.second (YieldsList-from_slice c.args.counts cc))) (λ x b q k. search (rules, tests)))
     c.refused.ensures
-    ∙ beside c.args.counts 0 c.args.jobs.now (let l : length c.args.counts ≡ 32 = search rules in omega arith)
+    ∙ beside c.args.counts 0 (jobs_of c.args.p.now) (let l : length c.args.counts ≡ 32 = search rules in omega arith)
+    ∙ counts_rule c.args.p.now c.args.counts e few

@@ -47,7 +47,7 @@ invariant_of-result c =
       coherent = l.0;
       before = c.if-self.false;
       laid = l.1;
-      hi_now = to_z-of_z {w = w32} (search rules) ∙ c.current-hi.ensures ∙ current_of_layout _ _ _ _ l.1;
-      lo_now = to_z-of_z {w = w32} (search rules) ∙ c.current-lo.ensures ∙ current_of_layout _ _ _ _ l.1;
-      ready_now = c.ready_set-ready.ensures;
+      hi_now = to_z-of_z {w = w32} (search rules) ∙ c.current.ensures ∙ current_of_layout _ _ _ _ l.1;
+      lo_now = to_z-of_z {w = w32} (search rules) ∙ c.current-2.ensures ∙ current_of_layout _ _ _ _ l.1;
+      ready_now = c.ready_set.ensures;
     }
