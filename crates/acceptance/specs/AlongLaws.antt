@@ -2,14 +2,14 @@
 -- and the answer from one border on is the answer from the border after the next end, where that one is not short.
 use Prim.Native.Nat.{ℕ, zero, suc, ◌+◌, ◌-◌, ◌≤◌, ◌<◌}
 use native.Mathlib.Omega.{arith}
-use Rattle.std.specs.Prelude.{◌≡◌, ◌↔◌, true, false, List, length, take, drop}
+use Rattle.std.specs.Prelude.{◌≡◌, ◌↔◌, refl, true, false, List, length, take, drop}
 use Rattle.std.proofs.Common.{◌∙◌}
 use Rattle.std.proofs.Math.Bool.{not}
 use Rattle.std.proofs.Math.ListN.{get_or}
 use Rattle.words.specs.Words.{◌<?◌}
 use Rattle.words.specs.ZipLaws.{zip_at}
 use Rattle.answers.specs.Answer.{Answer, Accepted, Overdrawn, accepted, ◌unless◌, first_refusal}
-use Rattle.answers.specs.AnswerLaws.{first_on, first_end_lem}
+use Rattle.answers.specs.AnswerLaws.{first_on, first_end_lem, rule_on, rule_found}
 use Rattle.windows.specs.Windows.{InTime}
 use Rattle.windows.specs.WindowLaws.{in_time_mono}
 use Rattle.plan.specs.declared.Plan.{Plan}
@@ -76,3 +76,16 @@ module _ (p : Plan) (ok : InOrder p) where
   past_last a h none =
       first_end_lem (λ t _. Overdrawn t unless not (overdrawn p t)) p.table p.slots p.slots p.slots table_full (omega arith)
       ∙ from_past a p.slots h (omega arith) (λ t u v. (along_exactly t v).1 (end_in_time p ok t (omega arith) (λ s k m n. none s k (omega arith) n)))
+
+  -- border t is short: that is the answer from here on
+  pub short_here : (t : ℕ) → t < p.slots → overdrawn p t ≡ true → Overdrawn t ≡ overdrawn_from p t
+  unfolding accepted
+  short_here t h short = rule_found (λ t _. Overdrawn t) (λ t _. not (overdrawn p t)) p.table p.slots t t 0 table_full h refl (rw short)
+
+  -- it is not: the answer from here on is that from the next on
+  pub not_here : (t : ℕ) → t < p.slots → overdrawn p t ≡ false → overdrawn_from p (t + 1) ≡ overdrawn_from p t
+  not_here t h good = rule_on (λ t _. Overdrawn t) (λ t _. not (overdrawn p t)) p.table p.slots t t 0 table_full h (rw good)
+
+  -- no border is left
+  pub none_left : (t : ℕ) → p.slots ≤ t → Accepted ≡ overdrawn_from p t
+  none_left t h = first_end_lem (λ t _. Overdrawn t unless not (overdrawn p t)) p.table p.slots t t table_full h

@@ -1,9 +1,9 @@
 -- Words of the code of check 9 and of the analysis: the work of one job and of all, and its sums by home. The rules are in Acceptance and Analysis.
-use Rattle.std.specs.Prelude.{ℕ, Bool, true, if◌then◌else◌}
+use Rattle.std.specs.Prelude.{ℕ}
 use mathlib.Core.List.{List, zip_with}
 use Rattle.words.specs.Words.{◌<?◌}
 use Rattle.plan.specs.declared.Job.{Job}
-use Rattle.spares.specs.Spares.{hi_left, lo_left}
+use Rattle.spares.specs.Spares.{hi_left}
 use Rattle.spares.specs.Debt.{sums_by_home}
 
 -- the HI work of a job that has had so many table slots and ends on its lo-th
@@ -16,7 +16,3 @@ work_along job counts = zip_with left_along job counts
 
 abbrev pub sums_along : List ℕ → List Job → List ℕ → List ℕ
 sums_along home job counts = sums_by_home home (work_along job counts)
-
--- the HI or LO work of a job at border 0: live, with 0 given
-abbrev pub left_at_start : Bool → Job → ℕ
-left_at_start hi j = if hi then hi_left j true 0 else lo_left j true 0

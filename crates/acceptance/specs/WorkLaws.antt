@@ -1,6 +1,7 @@
 -- Laws of check 9 and of the analysis: a row of the plan's layout as the plan's row, for the work that the code has in an array.
-use Rattle.std.specs.Prelude.{ℕ, zero, suc, ◌≤◌, Bool, ◌≡◌, refl, pos, length, take}
+use Rattle.std.specs.Prelude.{ℕ, zero, suc, ◌≤◌, ◌≡◌, refl, pos, length, take}
 use Rattle.std.proofs.Common.{ap, sym, ◌∙◌, length-take-le}
+use Rattle.std.proofs.lemmas.List.{take-map}
 use mathlib.Core.List.{List, [], ◌∷◌, map, zip_with}
 use Rattle.words.specs.Words.{below0, filled}
 use Rattle.plan.specs.declared.Job.{Job}
@@ -17,7 +18,7 @@ use Rattle.intervals.specs.LayoutLaws.{past_of_layout}
 use Rattle.spares.specs.Debt.{in_debt}
 use Rattle.spares.specs.DebtLaws.{in_debt_lem}
 use Rattle.acceptance.specs.Acceptance.{along_table}
-use Rattle.acceptance.specs.Work.{left_along, work_along, sums_along, left_at_start}
+use Rattle.acceptance.specs.Work.{left_along, work_along, sums_along}
 
 -- ---- a row needs no more work than there are jobs
 remaining_take : (e : ℕ) (js : List Job) (ws : List ℕ) → remaining e js (take (length js) ws) ≡ remaining e js ws
@@ -58,5 +59,5 @@ along_layout p t l counts sums le size e f g =
 
 -- ---- the rows of border 0
 -- a row of border 0, by the plan's layout
-pub start_row : (p : Plan) (l : Layout) (work : List ℕ) (hi : Bool) → p.jobs ≤ length p.job → l ≡ layout_of p → take p.jobs work ≡ map (left_at_start hi) (jobs_of p) → row_in l 0 work ≡ row p 0 (map (left_at_start hi) (jobs_of p))
-start_row p l work hi le e w = rw (e, row_of_layout p 0 work) (row_same p 0 work _ (rw (length-take-le p.jobs p.job le) w))
+pub start_row : (p : Plan) (l : Layout) (f : Job → ℕ) → p.jobs ≤ length p.job → l ≡ layout_of p → row_in l 0 (map f p.job) ≡ row p 0 (map f (jobs_of p))
+start_row p l f le e = rw (e, row_of_layout p 0 (map f p.job)) (row_same p 0 (map f p.job) _ (rw (length-take-le p.jobs p.job le) (take-map f p.jobs p.job)))

@@ -1,19 +1,21 @@
 -- Laws of one step, for the loops over a run's jobs: entries that expire, the return test, work stored job by job.
-use Rattle.std.specs.Prelude.{ℕ, zero, suc, ◌+◌, ◌-◌, ◌≤◌, ◌<◌, Bool, true, false, ◌≡◌, refl, List, [], ◌∷◌, take, drop, get_or, set, if◌then◌else◌}
+use Rattle.std.specs.Prelude.{ℕ, zero, suc, ◌+◌, ◌-◌, ◌≤◌, ◌<◌, Bool, true, false, ◌&&◌, ◌≡◌, refl, List, [], ◌∷◌, take, drop, get_or, set, if◌then◌else◌}
 use Rattle.std.proofs.Common.{not-suc-le-zero, le_of_suc-le-suc, ap, sym, ◌∙◌, drop_of_length-le, length-take-le}
+use Rattle.std.proofs.lemmas.List.{get_or_past}
 use Rattle.std.proofs.Math.Numerals.{add-one}
+use Rattle.std.specs.List.{list_all, zip}
 use native.Mathlib.Omega.{arith}
 use Rattle.std.proofs.Math.ListN.{length}
 use Rattle.std.proofs.Math.Seq.{drop-cons}
 use Rattle.plan.specs.declared.Job.{Job}
 use Rattle.plan.specs.Plan.{blank_job}
-use Rattle.words.specs.ListLaws.{taken_from}
+use Rattle.words.specs.Words.{◌≤?◌}
 use Rattle.entries.specs.declared.Entry.{Entry}
 use Rattle.executive.specs.declared.Run.{Run}
 use Rattle.ready.specs.declared.Slot.{Slot}
 use Rattle.entries.specs.declared.Kind.{Kind}
 use Rattle.executive.specs.declared.Phase.{Phase}
-use Rattle.entries.specs.Entry.{fresh_entry, ran_on, expired_entry, past_lo, settled}
+use Rattle.entries.specs.Entry.{live, fresh_entry, ran_on, expired_entry, past_lo, settled}
 use Rattle.executive.specs.Step.{reported, expired_entries, expired, overrun, every_settled, can_return, phase_after, judged, refreshed, next_run}
 use Rattle.executive.specs.Sound.{Listed, Countable}
 
@@ -29,29 +31,18 @@ expired_next t (suc i) (x ∷ js) (y ∷ es) j e h k = ap (λ (l : List Entry). 
 pub expired_turn : (t i : ℕ) (js : List Job) (es next : List Entry) (j : Job) (e x : Entry) → i < length js → i < length es → next ≡ expired_entries t (take i js) es → x ≡ expired_entry t (get_or js i j) (get_or next i e) → set next i x ≡ expired_entries t (take (i + 1) js) es
 expired_turn t i js es next j e x h k p q = rw (q, p, add-one i) (expired_next t i js es j e h k)
 
-module _ (js : List Job) (es : List Entry) (cs : List ℕ) (n i : ℕ) (j : Job) (e : Entry) (lj : n ≤ length js) (le : n ≤ length es) (lc : n ≤ length cs) (h : i < n) where
-  -- job i + 1 is settled: the answer from here is the answer from the next on
-  pub settled_on : settled (get_or js i j) (get_or es i e) (get_or cs i 0) ≡ true → every_settled (drop (i + 1) (take n js)) (drop (i + 1) es) (drop (i + 1) cs) ≡ every_settled (drop i (take n js)) (drop i es) (drop i cs)
-  unfolding every_settled
-  settled_on p =
-      let a : i < length es = omega arith in
-      let b : i < length cs = omega arith in
-      rw (taken_from js n i j lj h, drop-cons es i e a, drop-cons cs i 0 b, p, add-one i)
-
-  -- it is not: that is the answer
-  pub settled_not : settled (get_or js i j) (get_or es i e) (get_or cs i 0) ≡ false → false ≡ every_settled (drop i (take n js)) (drop i es) (drop i cs)
-  unfolding every_settled
-  settled_not p =
-      let a : i < length es = omega arith in
-      let b : i < length cs = omega arith in
-      rw (taken_from js n i j lj h, drop-cons es i e a, drop-cons cs i 0 b, p)
-
--- none is left
-pub settled_end : (js : List Job) (es : List Entry) (cs : List ℕ) (n i : ℕ) → n ≤ length js → n ≤ i → true ≡ every_settled (drop i (take n js)) (drop i es) (drop i cs)
+-- the return test is the library's test of all
+pub every_settled_all : (js : List Job) (es : List Entry) (cs : List ℕ) → list_all (λ (p : (Job × Entry) × ℕ). settled p.0.0 p.0.1 p.1) (zip (zip js es) cs) ≡ every_settled js es cs
 unfolding every_settled
-settled_end js es cs n i le h =
-    let l : length (take n js) ≤ i = rw (length-take-le n js le) h in
-    rw (drop_of_length-le (take n js) l)
+every_settled_all [] es cs = refl
+every_settled_all (j ∷ js) [] cs = refl
+every_settled_all (j ∷ js) (e ∷ es) [] = refl
+every_settled_all (j ∷ js) (e ∷ es) (c ∷ cs) = ap (settled j e c &&◌) (every_settled_all js es cs)
+
+never : (b c : Bool) → (b && false && c) ≡ false
+never false c = refl
+never true false = refl
+never true true = refl
 
 module _ (r : Run) (slot : Slot) (k i : ℕ) (p : slot ≡ Slot.Job k) (q : i ≡ k - 1) where
   -- a slot with a job, reported
@@ -59,18 +50,10 @@ module _ (r : Run) (slot : Slot) (k i : ℕ) (p : slot ≡ Slot.Job k) (q : i �
   unfolding reported
   ran kind e h = rw (p, h, q)
 
-  -- whether it overruns
-  pub overran : (b : Bool) → b ≡ past_lo (get_or r.plan.job i blank_job) (get_or r.entry i fresh_entry) → b ≡ overrun r slot
-  unfolding overrun
-  overran b h = rw (p, h, q)
-
--- the phase after a step, from the test that the phase asks
-module _ (r : Run) (slot : Slot) (b : Bool) where
-  pub after_t : r.phase ≡ Phase.T → b ≡ overrun r slot → (if b then Phase.H else Phase.T) ≡ phase_after r.phase r slot
-  after_t p q = ap (λ (x : Bool). if x then Phase.H else Phase.T) q ∙ sym (ap (λ (h : Phase). phase_after h r slot) p)
-
-  pub after_h : r.phase ≡ Phase.H → b ≡ can_return r → (if b then Phase.T else Phase.H) ≡ phase_after r.phase r slot
-  after_h p q = ap (λ (x : Bool). if x then Phase.T else Phase.H) q ∙ sym (ap (λ (h : Phase). phase_after h r slot) p)
+  -- a number beyond the jobs has the blank job, a LO one
+  pub none_beyond : length r.plan.job ≤ i → overrun r slot ≡ false
+  unfolding overrun past_lo
+  none_beyond h = rw (p, ← q, get_or_past r.plan.job i blank_job h) (never (live (get_or r.entry i fresh_entry)) (blank_job.lo ≤? (get_or r.entry i fresh_entry).given))
 
 -- no part of a step touches the plan
 pub told_plan : (r told : Run) (slot : Slot) (kind : Kind) → told ≡ reported r slot kind → told.plan ≡ r.plan

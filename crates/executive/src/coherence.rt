@@ -1,5 +1,5 @@
 // When the record of a run is coherent, on any record: the entries, the rows worked out afresh, and the whole test.
-ghost use Rattle.std.specs.Prelude.{◌≡◌, ◌≤◌, take};
+ghost use Rattle.std.specs.Prelude.{◌≡◌, ◌≤◌, if◌then◌else◌, Some, None};
 ghost use Rattle.plan.specs.Limits.{max_jobs};
 ghost use Rattle.intervals.specs.Layout.{layout_of};
 ghost use Rattle.executive.specs.Coherent.{all_hold, coherent};
@@ -8,24 +8,14 @@ ghost use Rattle.executive.specs.Step.{refreshed};
 use crate::Run;
 use entries::{Entry, standing_holds};
 use intervals::Layout;
-use plan::{JOBS, Job};
+use plan::Job;
+use spares::Rows;
 
-// Of the first n jobs: a live one has fewer slots than hi; an ended one at most hi, and is not marked ended after t.
-fn entries_hold(t: u16, job: [Job; JOBS], entry: [Entry; JOBS], n: usize) -> bool
-    requires { n ≤ max_jobs }
-    ensures { result ≡ all_hold t (take n job) entry }
+// Of these jobs: a live one has fewer slots than hi; an ended one at most hi, and is not marked ended after t.
+fn entries_hold(t: u16, job: &[Job], entry: &[Entry]) -> bool
+    ensures { result ≡ all_hold t job.now entry.now }
 {
-    let mut i: usize = 0;
-    while i < n {
-        let j = job[i];
-        let e = entry[i];
-        let standing = e.standing;
-        if !standing_holds(t, j.hi, e.given, standing) {
-            return false;
-        }
-        i += 1;
-    }
-    true
+    job.iter().zip(entry).all(|(j, e)| standing_holds(t, j.hi, e.given, e.standing))
 }
 
 impl Run {
@@ -34,45 +24,23 @@ impl Run {
         requires { (self.plan.jobs ≤ max_jobs) × (layout ≡ layout_of self.plan) }
         ensures { result ≡ refreshed self }
     {
-        let p = self.plan;
-        let job = p.job;
-        let entry = self.entry;
-        let rows = spares::rows_of(layout, self.t, job, entry, p.jobs);
-        let hi = rows.hi;
-        let lo = rows.lo;
-        let mut next = self;
-        next.hi = hi;
-        next.lo = lo;
-        next
+        let Rows { hi, lo } = spares::rows_of(layout, self.t, self.plan.job, self.entry, self.plan.jobs);
+        Run { hi, lo, ..self }
     }
 
-    // Every clause of coherence, in the order of its definition; `layout` is that of the run's plan.
-    pub(crate) fn coherent_in(self, layout: Layout) -> bool
-        requires { layout ≡ layout_of self.plan }
-        ensures { result ≡ coherent self }
+    // The layout of a coherent run's plan, worked out once; None where a clause of coherence fails.
+    pub(crate) fn coherent_layout(self) -> Option<Layout>
+        ensures { result ≡ (if coherent self then Some (layout_of self.plan) else None) }
     {
-        let p = self.plan;
-        let answer = well_formed::well_formed(p);
-        if answer.is_err() {
-            return false;
+        well_formed::well_formed(self.plan).ok()?;
+        if self.plan.slots < self.t || !entries_hold(self.t, self.jobs(), &self.entry) {
+            return None;
         }
-        if p.slots < self.t {
-            return false;
+        let layout = intervals::layout_of(self.plan);
+        let fresh = spares::rows_of(layout, self.t, self.plan.job, self.entry, self.plan.jobs);
+        if spares::same_row(self.hi, fresh.hi) && spares::same_row(self.lo, fresh.lo) {
+            return Some(layout);
         }
-        let n = p.jobs as usize;
-        let job = p.job;
-        let entry = self.entry;
-        if !entries_hold(self.t, job, entry, n) {
-            return false;
-        }
-        let fresh = spares::rows_of(layout, self.t, job, entry, p.jobs);
-        let hi = self.hi;
-        let fresh_hi = fresh.hi;
-        if !spares::same_row(hi, fresh_hi) {
-            return false;
-        }
-        let lo = self.lo;
-        let fresh_lo = fresh.lo;
-        spares::same_row(lo, fresh_lo)
+        None
     }
 }

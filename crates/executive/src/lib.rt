@@ -1,24 +1,26 @@
 // The run of an accepted plan, slot by slot: start, coherence, choice, report, expiry, phase. Texts and programs are above.
 #![tactic(auto)]
 
-ghost use Rattle.std.specs.Prelude.{◌≡◌};
-ghost use Rattle.intervals.specs.Layout.{layout_of};
+ghost use Rattle.std.specs.Prelude.{◌≡◌, OnOk, OnErr, Err};
+ghost use Rattle.answers.specs.Answer.{Accepted};
+ghost use Rattle.plan.specs.Plan.{jobs_of};
+ghost use Rattle.executive.specs.declared.Stepped.{Stepped};
 ghost use Rattle.executive.specs.Run.{blank_run, start};
 ghost use Rattle.executive.specs.Coherent.{coherent};
-ghost use Rattle.executive.specs.Choice.{can_go_on, made_choice, no_choice, choose};
-ghost use Rattle.executive.specs.Step.{next_run, refused_step, step};
-ghost use Rattle.executive.specs.Sound.{Sound, Countable};
+ghost use Rattle.executive.specs.Choice.{no_choice, choose};
+ghost use Rattle.executive.specs.Step.{refused_step, step};
 
+use acceptance::Analysis;
 use answers::{Answer, Refusal};
 use entries::{Entry, Kind};
-use intervals::Layout;
-use plan::Plan;
+use plan::{Job, Plan};
 use ready::Slot;
 use spares::{Row, Spare};
 use stepping::kind_fits;
 
 mod choosing;
 mod coherence;
+mod going;
 mod stepping;
 
 #[derive(Clone, Copy)]
@@ -72,17 +74,16 @@ pub struct Stepped {
 pub fn blank_run() -> Run
     ensures { result ≡ blank_run }
 {
-    let p = plan::blank_plan();
-    let entry = entries::fresh_entries();
     let hi = spares::blank_row();
     let lo = spares::blank_row();
+    let entry = entries::fresh_entries();
     Run {
-        plan: p,
+        plan: plan::blank_plan(),
         t: 0,
         phase: Phase::T,
-        hi: hi,
-        lo: lo,
-        entry: entry,
+        hi,
+        lo,
+        entry,
     }
 }
 
@@ -90,30 +91,23 @@ pub fn blank_run() -> Run
 pub fn start(p: Plan) -> Started
     ensures { result ≡ start p }
 {
-    let analysis = acceptance::analysis_of(p);
-    let answer = analysis.answer;
+    let Analysis { answer, hi, lo, .. } = acceptance::analysis_of(p);
     if answer.is_err() {
-        let blank = blank_run();
         return Started {
-            answer: answer,
-            run: blank,
+            answer,
+            run: blank_run(),
         };
     }
-    let hi = analysis.hi;
-    let lo = analysis.lo;
     let entry = entries::fresh_entries();
     let run = Run {
         plan: p,
         t: 0,
         phase: Phase::T,
-        hi: hi,
-        lo: lo,
-        entry: entry,
+        hi,
+        lo,
+        entry,
     };
-    Started {
-        answer: Ok(()),
-        run: run,
-    }
+    Started { answer, run }
 }
 
 // A refused choice: idle with 0 ready and spares of 0.
@@ -121,7 +115,7 @@ fn no_choice(answer: Answer) -> Choice
     ensures { result ≡ no_choice answer }
 {
     Choice {
-        answer: answer,
+        answer,
         slot: Slot::Idle,
         ready: 0,
         hi: 0,
@@ -130,109 +124,63 @@ fn no_choice(answer: Answer) -> Choice
 }
 
 impl Run {
+    // The jobs of its plan, the first n; n beyond the array means all of it.
+    fn jobs(&self) -> &[Job]
+        ensures { result.now ≡ jobs_of self.now.plan }
+    {
+        let all: &[Job] = &self.plan.job;
+        &all[..usize::from(self.plan.jobs).min(all.len())]
+    }
+
     // Every clause of coherence holds of the record.
     pub fn coherent(self) -> bool
         ensures { result ≡ coherent self }
     {
-        let p = self.plan;
-        let layout = intervals::layout_of(p);
-        self.coherent_in(layout)
-    }
-
-    // 10, then 11; `layout` is that of the run's plan.
-    fn can_go_on(self, layout: Layout) -> Answer
-        requires { layout ≡ layout_of self.plan }
-        ensures { result ≡ can_go_on self }
-    {
-        if !self.coherent_in(layout) {
-            return Err(Refusal::Incoherent);
-        }
-        if self.t < self.plan.slots {
-            return Ok(());
-        }
-        Err(Refusal::Over(self.t))
-    }
-
-    // The choice of a run that can go on; `layout` is that of the run's plan.
-    fn made(self, layout: Layout) -> Choice
-        requires { Sound self × (layout ≡ layout_of self.plan) }
-        ensures { result ≡ made_choice self }
-    {
-        let his = self.hi;
-        let los = self.lo;
-        let hi = spares::current(layout, self.t, his);
-        let lo = spares::current(layout, self.t, los);
-        let ready = self.ready();
-        let slot = self.chosen(hi, lo, ready);
-        Choice {
-            answer: Ok(()),
-            slot: slot,
-            ready: u32::count_ones(ready),
-            hi: hi,
-            lo: lo,
-        }
+        self.coherent_layout().is_some()
     }
 
     // What slot t is given to, how many jobs are ready and the current spares; refused, idle with 0 ready and spares of 0.
     pub fn choose(self) -> Choice
         ensures { result ≡ choose self }
     {
-        let p = self.plan;
-        let layout = intervals::layout_of(p);
-        let answer = self.can_go_on(layout);
-        if answer.is_err() {
-            return no_choice(answer);
-        }
-        self.made(layout)
-    }
-
-    // The run after an accepted report: the report, expiry, the phase, then both rows.
-    fn next_run(self, layout: Layout, slot: Slot, kind: Kind) -> Run
-        requires { Sound self × Countable self slot × (layout ≡ layout_of self.plan) }
-        ensures { result ≡ next_run self slot kind }
-    {
-        let told = self.reported(slot, kind);
-        let left = told.expired();
-        let judged = left.judged(slot);
-        judged.refreshed(layout)
-    }
-
-    // A refused report: the same run and no choice.
-    fn refused(self, answer: Answer) -> Stepped
-        ensures { result ≡ refused_step self answer }
-    {
-        let choice = no_choice(answer);
-        Stepped {
-            answer: answer,
-            run: self,
-            choice: choice,
+        match self.going() {
+            Ok(going) => going.choice(),
+            Err(refusal) => no_choice(Err(refusal)),
         }
     }
 
-    // One report: the next run with the answer, or a refusal with the same run. The layout is worked out once.
+    // The next run and the choice that was made, or 10 to 13.
+    fn try_step(self, report: Report) -> Result<(Run, Choice), Refusal>
+        ensures stepped { OnOk result (λ s. ◌≡◌ {A = Stepped} (record { answer = Accepted; run = s.0; choice = s.1 }) (step self report)) }
+        ensures refused { OnErr result (λ e. refused_step self (Err e) ≡ step self report) }
+    {
+        let going = self.going()?;
+        if report.slot != self.t {
+            return Err(Refusal::OtherSlot(self.t));
+        }
+        let choice = going.choice();
+        if !kind_fits(choice.slot, report.kind) {
+            return Err(Refusal::WrongKind(self.t));
+        }
+        let next = going.next_run(choice.slot, report.kind);
+        Ok((next, choice))
+    }
+
+    // One report: the next run with the answer, or a refusal with the same run.
     pub fn step(self, report: Report) -> Stepped
         ensures { result ≡ step self report }
     {
-        let p = self.plan;
-        let layout = intervals::layout_of(p);
-        let answer = self.can_go_on(layout);
-        if answer.is_err() {
-            return self.refused(answer);
-        }
-        if report.slot != self.t {
-            return self.refused(Err(Refusal::OtherSlot(self.t)));
-        }
-        let made = self.made(layout);
-        let slot = made.slot;
-        let kind = report.kind;
-        if !kind_fits(slot, kind) {
-            return self.refused(Err(Refusal::WrongKind(self.t)));
-        }
-        let next = self.next_run(layout, slot, kind);
-        Stepped {
-            answer: Ok(()),
-            run: next,
-            choice: made,
+        match self.try_step(report) {
+            Ok((run, choice)) => Stepped {
+                answer: Ok(()),
+                run,
+                choice,
+            },
+            Err(refusal) => Stepped {
+                answer: Err(refusal),
+                run: self,
+                choice: no_choice(Err(refusal)),
+            },
         }
     }
 }

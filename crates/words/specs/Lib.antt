@@ -11,3 +11,4 @@ pub mod ZipLaws
 pub mod StoredLaws
 pub mod MemberLaws
 pub mod SumLaws
+pub mod MadeLaws

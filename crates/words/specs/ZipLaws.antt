@@ -2,9 +2,10 @@
 use Prim.Native.Nat.{ℕ, zero, suc, ◌+◌, ◌≤◌, ◌<◌}
 use Rattle.std.proofs.Common.{not-suc-le-zero, le_of_suc-le-suc, arith, ◌∙◌, drop_of_length-le, drop-cons, get_or-take, length-take-le}
 use Rattle.std.proofs.Math.Numerals.{add-one}
-use Rattle.std.specs.Prelude.{Bool, true, false, ◌≡◌, length, take, drop, get_or}
+use Rattle.std.specs.Prelude.{Bool, true, false, ◌&&◌, ◌≡◌, length, take, drop, get_or}
 use Rattle.std.proofs.Math.Path.{refl, ap}
 use mathlib.Core.List.{List, [], ◌∷◌, zip_with}
+use Rattle.std.specs.List.{list_all, zip}
 use Rattle.words.specs.Words.{every}
 
 module _ {A B C : Type 0} (f : A → B → C) where
@@ -51,3 +52,10 @@ module _ {A B : Type 0} (f : A → B → Bool) (xs : List A) (ys : List B) (n : 
   pub every_end : n ≤ i → true ≡ every (drop i (zip_with f (take n xs) ys))
   unfolding every
   every_end l = rw (zipped_end f xs ys n h k i l)
+
+-- the test of every pair is the library's
+pub every_pair : {A B : Type 0} (test : A → B → Bool) (xs : List A) (ys : List B) → every (zip_with test xs ys) ≡ list_all (λ (p : A × B). test p.0 p.1) (zip xs ys)
+unfolding every zip_with
+every_pair test [] ys = refl
+every_pair test (x ∷ xs) [] = refl
+every_pair test (x ∷ xs) (y ∷ ys) = ap (test x y &&◌) (every_pair test xs ys)

@@ -1,27 +1,15 @@
--- `overruns` meets its contract: idle is no overrun, a job's is its own.
-use native.Mathlib.Omega.{arith}
-use mathlib.Core.Path.{subst}
-use Rattle.executive.specs.Sound.{Listed}
-use Rattle.ready.specs.declared.Slot.{Slot}
-use Rattle.executive.specs.Step.{overrun}
-use Rattle.executive.specs.StepLaws.{overran}
+-- `overruns` meets its contract: a number beyond the jobs has the blank job, which overruns nothing.
+use Rattle.std.proofs.Common.{rules, arith, ◌≡◌, ◌∙◌, sym, length}
+use borrow.Author.Tests.{le-ltb}
+use Rattle.words.specs.ListLaws.{long}
+use Rattle.plan.specs.Limits.{max_jobs}
+use Rattle.executive.specs.StepLaws.{none_beyond}
 use Rattle.executive.proofs.Run.overruns.Goals as goal
-use Rattle.executive.proofs.Run.overruns.Goals.{In-Job}
+use Rattle.executive.proofs.Run.overruns.Goals.{Start}
 
--- what the `requires` says of the job
-listed : (c : In-Job) → Listed (Slot.Job c.in-Job.k)
-listed c = subst Listed c.in-Job.is c.requires
+full : (c : Start) → length c.args.self.plan.job ≡ max_jobs
+full c = search (rules, long)
 
-pub returns-in_default : goal.returns-in_default
-unfolding overrun
-returns-in_default c = rw c.in_default.is
-
-pub bounds-job-i : goal.bounds-job-i
-bounds-job-i c = omega (arith, listed (goal.at.bounds-job-i c).In-Job, c.index-i.ensures.0)
-
-pub bounds-entry-i : goal.bounds-entry-i
-bounds-entry-i c = omega (arith, listed (goal.at.bounds-entry-i c).In-Job, c.index-i.ensures.0)
-
-pub returns : goal.returns
-returns c =
-    overran c.args.self _ _ _ c.in-Job.is c.index-i.ensures.0 _ c.past_lo.ensures
+pub returns-else-i-lt-JOBS : goal.returns-else-i-lt-JOBS
+returns-else-i-lt-JOBS c =
+    le-ltb _ _ c.if-i-lt-JOBS.false ∙ sym (none_beyond c.args.self _ _ _ c.in-Job.is c.index-i.ensures.0 (omega (arith, full (goal.at.returns-else-i-lt-JOBS c).Start)))

@@ -1,33 +1,14 @@
--- `entries_hold` meets its contract. The invariant: the test from here on is the whole test.
-use Prim.Native.Nat.{◌≤◌}
-use native.Mathlib.Omega.{arith}
-use mathlib.Core.Path.{◌≡◌, refl, sym, ◌∙◌}
-use lib.ListN.{length}
-use Rattle.words.specs.ListLaws.{long}
-use Rattle.plan.specs.Limits.{max_jobs}
+-- `entries_hold` meets its contract: the chain tests every pair.
+use Rattle.std.proofs.Common.{rules, tests}
+use Rattle.std.proofs.lemmas.Iterator.{YieldsList-from_slice, YieldsList-from_zip}
+use Rattle.std.proofs.lemmas.Iterator.Search.{all_from_yields_List}
+use Rattle.plan.specs.declared.Job.{Job}
+use Rattle.entries.specs.declared.Entry.{Entry}
 use Rattle.entries.specs.Entry.{entry_holds}
-use Rattle.words.specs.ZipLaws.{every_on, every_not, every_end}
-use borrow.Author.Rules.{rules}
+use Rattle.words.specs.ZipLaws.{every_pair}
 use Rattle.executive.proofs.coherence.entries_hold.Goals as goal
-use Rattle.executive.proofs.coherence.entries_hold.Goals.{Start}
-
-jobs-full : (c : Start) → c.args.n ≤ length c.args.job
-jobs-full c = let l : length c.args.job ≡ max_jobs = search (rules, long) in omega (arith, c.requires)
-
-entries-full : (c : Start) → c.args.n ≤ length c.args.entry
-entries-full c = let l : length c.args.entry ≡ max_jobs = search (rules, long) in omega (arith, c.requires)
-
-pub loop-i-init : goal.loop-i-init
-loop-i-init c = (search rules, refl)
-
-pub returns-then-not-standing_holds : goal.returns-then-not-standing_holds
-returns-then-not-standing_holds c =
-    every_not (entry_holds c.args.t) _ _ _ (jobs-full (goal.at.returns-then-not-standing_holds c).Start) (entries-full (goal.at.returns-then-not-standing_holds c).Start) _ _ _ c.loop-i-test.true (sym c.standing_holds.ensures ∙ c.if-not-standing_holds.true) ∙ c.loop-i.invariant.1
-
-pub loop-i-preserved : goal.loop-i-preserved
-loop-i-preserved c =
-    (search rules, every_on (entry_holds c.args.t) _ _ _ (jobs-full (goal.at.loop-i-preserved c).Start) (entries-full (goal.at.loop-i-preserved c).Start) _ _ _ c.loop-i-test.true (sym c.standing_holds.ensures ∙ c.if-not-standing_holds.false) ∙ c.loop-i.invariant.1)
 
 pub returns : goal.returns
 returns c =
-    every_end (entry_holds c.args.t) _ _ _ (jobs-full (goal.at.returns c).Start) (entries-full (goal.at.returns c).Start) _ c.loop-i-test.false ∙ c.loop-i.invariant.1
+    rw every_pair
+    (all_from_yields_List (λ (p : Job × Entry). entry_holds c.args.t p.0 p.1) c.all.new.self _ _ c.all.ensures.ran (YieldsList-from_zip (YieldsList-from_slice c.args.job.now cc) (YieldsList-from_slice c.args.entry.now cc)) (λ x b q k. search (rules, tests)))
