@@ -2,7 +2,7 @@
 // The text is in plan_text, the judgement of a whole plan in acceptance.
 #![tactic(auto)]
 
-ghost use Rattle.std.specs.Prelude.{◌≡◌, map, ◌<◌};
+ghost use Rattle.std.specs.Prelude.{◌≡◌, map, ◌≤◌, ◌<◌, length, take};
 ghost use Rattle.words.specs.Words.{every};
 ghost use Rattle.answers.specs.Answer.{SlotLimit, JobLimit, ◌unless◌};
 ghost use Rattle.plan.specs.Limits.{max_slots, max_jobs, one_to};
@@ -81,6 +81,14 @@ fn one_to(limit: usize, n: u16) -> bool
     ensures { result ≡ one_to limit n }
 {
     (1..=limit).contains(&usize::from(n))
+}
+
+// The first n of the jobs; n beyond the array means all of it.
+pub fn first_jobs(job: &[Job; JOBS], n: u16) -> &[Job]
+    ensures all { result.now ≡ take n job.now }
+    ensures few { length result.now ≤ max_jobs }
+{
+    &job[..JOBS.min(usize::from(n))]
 }
 
 // 2: N not 1..512.
