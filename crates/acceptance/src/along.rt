@@ -22,7 +22,7 @@ pub(crate) struct Laid {
     pub ghost whole: { length layout.interval ≡ max_intervals },
 }
 
-// A border of its table, 0 to N, and the table slots of each job before it.
+// A border of the table of a laid plan, 0 to N, and the table slots of each job before it.
 #[derive(Clone, Copy)]
 struct Border<'a> {
     of: &'a Laid,
@@ -44,7 +44,7 @@ impl Laid {
         ensures refused { IfErr result (λ e. well_formed p ≡ Err e) }
     {
         well_formed::well_formed(p)?;
-        let layout = intervals::layout_of(p);
+        let layout = intervals::layout_of(&p);
         Ok(Laid { plan: p, layout })
     }
 
@@ -107,8 +107,8 @@ impl<'a> Border<'a> {
         ensures { result ≡ overdrawn self.entry.of.now.plan self.entry.t }
     {
         let work = work_along(&self.of.plan.job, &self.counts);
-        let sums = spares::debt::work_by_home(self.of.layout.home, work);
-        spares::debt::in_debt(self.of.layout, self.t, &sums)
+        let sums = spares::debt::work_by_home(&self.of.layout.home, &work);
+        spares::debt::in_debt(&self.of.layout, self.t, &sums)
     }
 
     // The slot at this border is the last of a HI job.

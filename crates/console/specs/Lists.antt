@@ -1,6 +1,7 @@
 -- Lines one after the other: the lines of one more interval or job, and the rooms of whole outputs.
-use Rattle.std.specs.Prelude.{ℕ, zero, suc, ◌+◌, ◌*◌, ◌≤◌, ◌<◌, min, ◌≡◌, refl, List, [], ◌∷◌, ◌++◌, ℤ, pos, get_or, take, if◌then◌else◌}
+use Rattle.std.specs.Prelude.{ℕ, zero, suc, ◌+◌, ◌*◌, ◌≤◌, ◌<◌, min, ◌≡◌, refl, List, [], ◌∷◌, ◌++◌, ℤ, pos, get_or, take, drop, if◌then◌else◌}
 use Rattle.std.proofs.Common.{add-one, le_of_suc-le-suc, arith, sym, ap, ◌∙◌, append-nil, append_assoc, take_all, le-leb}
+use Rattle.std.specs.Array.{IsFirstChunk}
 use Rattle.std.proofs.Math.Bool.{true, false}
 use Rattle.std.proofs.Math.ListN.{length}
 use Rattle.std.proofs.lemmas.Bool.{lt-leb}
@@ -8,6 +9,7 @@ use Rattle.words.specs.Words.{◌≤?◌}
 use Rattle.words.specs.Cases.{by_less}
 use Rattle.lines.specs.Lines.{bytes, digits, digits_in, line}
 use Rattle.lines.specs.Writing.{put}
+use Rattle.lines.specs.WritingLaws.{length_put}
 use Rattle.intervals.specs.declared.Interval.{Interval}
 use Rattle.intervals.specs.Intervals.{max_intervals}
 use Rattle.intervals.specs.Layout.{blank_interval}
@@ -22,7 +24,7 @@ use Rattle.acceptance.specs.Analysis.{analysis}
 use Rattle.console.specs.Print.{refused_line}
 use Rattle.console.specs.Check.{interval_lines, analysis_lines, check_output}
 use Rattle.console.specs.Run.{job_lines_from, job_lines}
-use Rattle.console.specs.Pieces.{longest, CountsIn, counts_in_lem, piece_counts, Piece, piece_within, piece_then, piece_is}
+use Rattle.console.specs.Pieces.{longest, CountsIn, counts_in_lem, chunk_put, Piece, piece_within, piece_then, piece_is}
 use Rattle.console.specs.Printed.{interval_line, job_line}
 
 -- room for a line of each interval and the answer's line
@@ -127,8 +129,11 @@ module _ (text d : List ℕ) where
   unfolding check_length check_written
   check_no_room h = rw (lt-leb check_room (length d) h) (refl, (refl, counts_in_lem 0 d (omega arith)))
 
-  pub check_written_lem : (m r : ℕ) (f : List ℕ) → check_room ≤ length d → m ≤ check_room → Piece m 0 (check_output text) d r f → (r ≡ check_length text d) × ((f ≡ check_written text d) × CountsIn r f)
+  pub check_written_lem : (e : List ℕ) → IsFirstChunk d e check_room → (m r : ℕ) (f : List ℕ) → m ≤ check_room → Piece m 0 (check_output text) e r f
+      → (r ≡ check_length text d) × ((f ++ drop check_room d ≡ check_written text d) × CountsIn r (f ++ drop check_room d))
   unfolding check_length check_written
-  check_written_lem m r f h few p =
-      let l : r ≡ length (check_output text) = omega (arith, p.place) in
-      rw (le-leb check_room (length d) h) (l, (p.text, piece_counts p (omega arith)))
+  check_written_lem e k m r f few p =
+      let w : List ℕ = check_output text in
+      let out : f ++ drop check_room d ≡ put 0 w d = ap (λ (x : List ℕ). x ++ drop check_room d) p.text ∙ chunk_put check_room w d e k (omega (arith, p.short)) in
+      let l : length (f ++ drop check_room d) ≡ length d = ap length out ∙ length_put 0 w d (omega (arith, p.short, k.enough)) in
+      rw (le-leb check_room (length d) k.enough) (omega (arith, p.place), (out, counts_in_lem r (f ++ drop check_room d) (omega (arith, p.place, p.short, k.enough))))

@@ -1,11 +1,13 @@
 -- Pieces of a printed line: what it means that one was written at a place of an output, and that pieces one after the other are one piece.
-use Rattle.std.specs.Prelude.{ℕ, zero, suc, ◌+◌, ◌*◌, ◌/◌, ◌%◌, ◌^◌, ◌≤◌, ◌<◌, ◌≡◌, refl, List, [], ◌∷◌, ◌++◌, length, set, take}
-use Rattle.std.proofs.Common.{pow-suc, arith, sym, ap, ◌∙◌, length-append, length-take-le}
+use Rattle.std.specs.Prelude.{ℕ, zero, suc, ◌+◌, ◌*◌, ◌/◌, ◌%◌, ◌^◌, ◌≤◌, ◌<◌, ◌≡◌, refl, List, [], ◌∷◌, ◌++◌, length, set, take, drop}
+use Rattle.std.proofs.Common.{pow-suc, arith, sym, ap, ◌∙◌, length-append, length-take-le, append_assoc, take-append-drop}
+use Rattle.std.specs.Array.{IsFirstChunk}
+use Rattle.std.proofs.lemmas.List.{drop-append-le}
 use Rattle.std.proofs.Math.Decide.{dec_lt}
 use Rattle.lines.specs.Lines.{digits}
 use Rattle.lines.specs.NumberLaws.{digits_one, digits_more}
 use Rattle.lines.specs.Writing.{put, put_fit, place_after}
-use Rattle.lines.specs.WritingLaws.{put_fits, after_fits, length_put, put_put, put_nil, put_front, digits_shorter}
+use Rattle.lines.specs.WritingLaws.{put_fits, after_fits, length_put, put_put, put_nil, put_start, put_front, digits_shorter}
 
 -- w, at most `most` bytes, was written into d at a place: r is the place after it, e the output then
 pub record Piece (most at : ℕ) (w d : List ℕ) (r : ℕ) (e : List ℕ) : Type 0 where
@@ -87,6 +89,12 @@ CountsIn n xs = (n ≤ length xs) × (n ≡ length (take n xs))
 pub counts_in_lem : (n : ℕ) (xs : List ℕ) → n ≤ length xs → CountsIn n xs
 counts_in_lem n xs h = (h, sym (length-take-le n xs h))
 
--- a piece written at the start, with room for it
-pub piece_counts : {m r : ℕ} {w d e : List ℕ} → Piece m 0 w d r e → m ≤ length d → CountsIn r e
-piece_counts {m} {r} {w} {d} {e} p h = counts_in_lem r e (omega (arith, p.place, p.short, piece_long p (omega arith)))
+-- what was written at the start of an output's first n bytes stands at the start of the output
+pub chunk_put : (n : ℕ) (w d e : List ℕ) → IsFirstChunk d e n → length w ≤ n → put 0 w e ++ drop n d ≡ put 0 w d
+chunk_put n w d e k few =
+    let long : length e ≡ n = omega (arith, ap length k.same, length-take-le n d k.enough) in
+    let whole : e ++ drop n d ≡ d = ap (λ (x : List ℕ). x ++ drop n d) k.same ∙ take-append-drop n d in
+    ap (λ (x : List ℕ). x ++ drop n d) (put_start w e)
+    ∙ append_assoc w (drop (length w) e) (drop n d)
+    ∙ ap (λ (x : List ℕ). w ++ x) (sym (drop-append-le (length w) e (drop n d) (omega arith)) ∙ ap (drop (length w)) whole)
+    ∙ sym (put_start w d)

@@ -1,5 +1,6 @@
 -- What the console's functions answer: the event, written into the lent output; the step line by the choice; and their laws.
-use Rattle.std.specs.Prelude.{ℕ, ◌+◌, ◌≤◌, ◌<◌, ◌≡◌, Bool, not, List, [], drop, Option, None, Some, IfSome}
+use Rattle.std.specs.Prelude.{ℕ, ◌+◌, ◌≤◌, ◌<◌, ◌≡◌, Bool, not, List, [], ◌++◌, drop, Option, None, Some, IfSome}
+use Rattle.std.specs.Array.{IsFirstChunk}
 use native.Mathlib.Omega.{arith}
 use Rattle.std.proofs.Math.Path.{refl, ap}
 use Rattle.std.proofs.Common.{sym, ◌∙◌}
@@ -30,7 +31,7 @@ use Rattle.console.specs.declared.run.Turn.{Turn}
 use Rattle.console.specs.Print.{refused_line}
 use Rattle.console.specs.Run.{step_line, job_lines}
 use Rattle.console.specs.Reports.{report_at, report_within}
-use Rattle.console.specs.Pieces.{Piece, CountsIn, counts_in_lem, piece_counts}
+use Rattle.console.specs.Pieces.{Piece, CountsIn, counts_in_lem, chunk_put}
 use Rattle.console.specs.Printed.{step_line_from}
 use Rattle.console.specs.Console.{Event, waits, refuses, started_event, plan_event, line_ready, longest_report, line_after, stepped_event, report_event, line_event, event_in, event, unread_output, end_in, end_output, run_room, turn_of, next_turn, next_out, end_length, end_written}
 
@@ -197,22 +198,26 @@ module _ (c : Console) (s d : List ℕ) where
   unfolding next_turn next_out
   next_no_room h = rw (lt-leb run_room (length d) h) (refl, refl)
 
-  pub next_told : run_room ≤ length d → (r : Option Turn) (f : List ℕ) → Told (event c s) d r f
-      → (r ≡ next_turn c s d) × ((f ≡ next_out c s d) × IfSome r (λ (t : Turn). (t.used ≤ length s) × CountsIn t.printed f))
-  unfolding next_turn next_out
-  next_told h r f t =
-      let u : (event c s).used ≤ length s = event_used c s in
-      let l : length f ≡ length d = ap length t.text ∙ length_put 0 (event c s).printed d (omega (arith, t.short)) in
-      let n : length (event c s).printed ≤ length f = omega (arith, t.short) in
-      let bounds : IfSome r (λ (t : Turn). (t.used ≤ length s) × CountsIn t.printed f) = by_test (event c s).waiting (λ w. rw (t.turn, w) tt) (λ w. rw (t.turn, w) (u, counts_in_lem (length (event c s).printed) f n)) in
-      rw (le-leb run_room (length d) h) (t.turn, (t.text, bounds))
+  module _ (e : List ℕ) (k : IsFirstChunk d e run_room) where
+    pub next_told : (r : Option Turn) (f : List ℕ) → Told (event c s) e r f
+        → (r ≡ next_turn c s d) × ((f ++ drop run_room d ≡ next_out c s d) × IfSome r (λ (t : Turn). (t.used ≤ length s) × CountsIn t.printed (f ++ drop run_room d)))
+    unfolding next_turn next_out
+    next_told r f t =
+        let p : List ℕ = (event c s).printed in
+        let out : f ++ drop run_room d ≡ put 0 p d = ap (λ (x : List ℕ). x ++ drop run_room d) t.text ∙ chunk_put run_room p d e k t.short in
+        let l : length (f ++ drop run_room d) ≡ length d = ap length out ∙ length_put 0 p d (omega (arith, t.short, k.enough)) in
+        let counts : CountsIn (length p) (f ++ drop run_room d) = counts_in_lem (length p) (f ++ drop run_room d) (omega (arith, t.short, k.enough)) in
+        let bounds : IfSome r (λ (t : Turn). (t.used ≤ length s) × CountsIn t.printed (f ++ drop run_room d)) = by_test (event c s).waiting (λ w. rw (t.turn, w) tt) (λ w. rw (t.turn, w) (event_used c s, counts)) in
+        rw (le-leb run_room (length d) k.enough) (t.turn, (out, bounds))
+
+    pub end_told : (r : ℕ) (f : List ℕ) → Piece run_room 0 (end_output c s) e r f → (r ≡ end_length c s d) × ((f ++ drop run_room d ≡ end_written c s d) × CountsIn r (f ++ drop run_room d))
+    unfolding end_length end_written
+    end_told r f p =
+        let w : List ℕ = end_output c s in
+        let out : f ++ drop run_room d ≡ put 0 w d = ap (λ (x : List ℕ). x ++ drop run_room d) p.text ∙ chunk_put run_room w d e k p.short in
+        let l : length (f ++ drop run_room d) ≡ length d = ap length out ∙ length_put 0 w d (omega (arith, p.short, k.enough)) in
+        rw (le-leb run_room (length d) k.enough) (omega (arith, p.place), (out, counts_in_lem r (f ++ drop run_room d) (omega (arith, p.place, p.short, k.enough))))
 
   pub end_no_room : length d < run_room → (0 ≡ end_length c s d) × ((d ≡ end_written c s d) × CountsIn 0 d)
   unfolding end_length end_written
   end_no_room h = rw (lt-leb run_room (length d) h) (refl, (refl, counts_in_lem 0 d (omega arith)))
-
-  pub end_written_lem : run_room ≤ length d → (r : ℕ) (f : List ℕ) → Piece run_room 0 (end_output c s) d r f → (r ≡ end_length c s d) × ((f ≡ end_written c s d) × CountsIn r f)
-  unfolding end_length end_written
-  end_written_lem h r f p =
-      let l : r ≡ length (end_output c s) = omega (arith, p.place) in
-      rw (le-leb run_room (length d) h) (l, (p.text, piece_counts p h))

@@ -1,16 +1,16 @@
 // Lines printed: each is written whole at a place of an output that has room for a line. What is printed when is in check.rt and run.rt.
-ghost use Rattle.std.specs.Prelude.{◌≡◌, [], ◌∷◌, ◌++◌, ◌+◌, ◌≤◌, nat_abs, length};
-ghost use Rattle.words.specs.Words.{below0};
+ghost use Rattle.std.specs.Prelude.{◌≡◌, [], ◌∷◌, ◌++◌, ◌+◌, ◌≤◌, length, Err};
 ghost use Rattle.lines.specs.Lines.{digits};
 ghost use Rattle.console.specs.Print.{signed, refused_line};
-ghost use Rattle.console.specs.Run.{phase_letter, standing_letter};
+ghost use Rattle.console.specs.Run.{job_number, phase_letter, standing_letter};
 ghost use Rattle.console.specs.Pieces.{Piece, longest};
-ghost use Rattle.console.specs.Printed.{interval_line, step_line_of, job_line};
+ghost use Rattle.console.specs.Printed.{interval_line, step_line_from, job_line};
 
-use answers::Answer;
+use answers::Refusal;
 use entries::{Entry, Standing};
-use executive::Phase;
+use executive::{Choice, Phase, Run};
 use intervals::Interval;
+use ready::Slot;
 
 // The digits of n, where the output has room for them.
 fn put_digits(out: &mut [u8], at: usize, n: usize) -> usize
@@ -24,7 +24,7 @@ fn put_digits(out: &mut [u8], at: usize, n: usize) -> usize
     lines::writing::put_number(out, last, (n % 10) as u32)
 }
 
-// The key of a line.
+// The key of a line, or other bytes of it.
 pub(crate) fn put_key(out: &mut [u8], at: usize, key: &[u8]) -> usize
     requires { at + length key.now ≤ length out.old }
     ensures { Piece (length key.now) at key.now out.old result out.new }
@@ -42,35 +42,17 @@ fn put_value(out: &mut [u8], at: usize, n: usize, close: u8) -> usize
     end + 1
 }
 
-fn is_below_zero(z: i32) -> bool
-    ensures { result ≡ below0 z }
-{
-    z < 0
-}
-
-// A spare without its sign.
-fn magnitude(z: i32) -> usize
-    ensures { result ≡ nat_abs z }
-{
-    if z < 0 {
-        let up_one = z + 1;
-        let m = 0 - up_one;
-        return m as usize + 1;
-    }
-    z as usize
-}
-
 // A spare and the byte that closes it.
 fn put_spare(out: &mut [u8], at: usize, z: i32, close: u8) -> usize
     requires { at + 22 ≤ length out.old }
     ensures { Piece 22 at (signed z ++ close ∷ []) out.old result out.new }
 {
-    let n = magnitude(z);
-    if is_below_zero(z) {
-        let first = lines::writing::put_bytes(out, at, b"-");
-        return put_value(out, first, n, close);
+    let size = z.unsigned_abs() as usize;
+    if z < 0 {
+        let first = put_key(out, at, b"-");
+        return put_value(out, first, size, close);
     }
-    put_value(out, at, n, close)
+    put_value(out, at, size, close)
 }
 
 // A letter and the comma after it.
@@ -78,10 +60,7 @@ fn put_letter(out: &mut [u8], at: usize, letter: u8) -> usize
     requires { at + 2 ≤ length out.old }
     ensures { Piece 2 at ((letter ∷ []) ++ 44 ∷ []) out.old result out.new }
 {
-    out[at] = letter;
-    let comma = at + 1;
-    out[comma] = b',';
-    comma + 1
+    put_key(out, at, &[letter, b','])
 }
 
 fn phase_letter(phase: Phase) -> u8
@@ -110,32 +89,32 @@ pub(crate) fn put_interval_line(out: &mut [u8], at: usize, x: Interval, hi: i32,
     ensures { Piece longest at (interval_line x hi lo) out.old result out.new }
 {
     let start = put_key(out, at, b"interval=");
-    let end = put_value(out, start, x.start as usize, b',');
-    let first = put_value(out, end, x.end as usize, b',');
+    let end = put_value(out, start, usize::from(x.start), b',');
+    let first = put_value(out, end, usize::from(x.end), b',');
     let second = put_spare(out, first, hi, b',');
     put_spare(out, second, lo, b'\n')
 }
 
-// `step=slot,job,phase,hi,lo`
-pub(crate) fn put_step_line(
-    out: &mut [u8],
-    at: usize,
-    slot: u16,
-    job: u16,
-    phase: Phase,
-    hi: i32,
-    lo: i32,
-) -> usize
+fn job_number(slot: Slot) -> u16
+    ensures { result ≡ job_number slot }
+{
+    match slot {
+        Slot::Job(k) => k,
+        Slot::Idle => 0,
+    }
+}
+
+// `step=slot,job,phase,hi,lo`: what was chosen, the phase and the current spares before the slot. `run` is the run before it.
+pub(crate) fn put_step_line(out: &mut [u8], at: usize, run: &Run, choice: &Choice) -> usize
     requires { at + longest ≤ length out.old }
-    ensures { Piece longest at (step_line_of slot job phase hi lo) out.old result out.new }
+    ensures { Piece longest at (step_line_from run.now choice.now) out.old result out.new }
 {
     let start = put_key(out, at, b"step=");
-    let second = put_value(out, start, slot as usize, b',');
-    let third = put_value(out, second, job as usize, b',');
-    let letter = phase_letter(phase);
-    let fourth = put_letter(out, third, letter);
-    let fifth = put_spare(out, fourth, hi, b',');
-    put_spare(out, fifth, lo, b'\n')
+    let second = put_value(out, start, usize::from(run.t), b',');
+    let third = put_value(out, second, usize::from(job_number(choice.slot)), b',');
+    let fourth = put_letter(out, third, phase_letter(run.phase));
+    let fifth = put_spare(out, fourth, choice.hi, b',');
+    put_spare(out, fifth, choice.lo, b'\n')
 }
 
 // `job=number,standing,given`
@@ -145,25 +124,23 @@ pub(crate) fn put_job_line(out: &mut [u8], at: usize, number: usize, e: Entry) -
 {
     let start = put_key(out, at, b"job=");
     let second = put_value(out, start, number, b',');
-    let standing = e.standing;
-    let letter = standing_letter(standing);
-    let third = put_letter(out, second, letter);
-    put_value(out, third, e.given as usize, b'\n')
+    let third = put_letter(out, second, standing_letter(e.standing));
+    put_value(out, third, usize::from(e.given), b'\n')
 }
 
 // `refused=number,place`, for 8 both places
-pub(crate) fn put_refused_line(out: &mut [u8], at: usize, answer: Answer) -> usize
+pub(crate) fn put_refused_line(out: &mut [u8], at: usize, refusal: Refusal) -> usize
     requires { at + longest ≤ length out.old }
-    ensures { Piece longest at (refused_line answer) out.old result out.new }
+    ensures { Piece longest at (refused_line (Err refusal)) out.old result out.new }
 {
     let start = put_key(out, at, b"refused=");
-    let number = answers::number_of(answer);
-    let first = put_value(out, start, number as usize, b',');
-    let place = answers::first_place(answer);
+    let number = answers::number_of(Err(refusal));
+    let first = put_value(out, start, usize::from(number), b',');
+    let place = answers::first_place(Err(refusal));
     if number != 8 {
         return put_value(out, first, place, b'\n');
     }
-    let other = answers::second_place(answer);
+    let other = answers::second_place(Err(refusal));
     let second = put_value(out, first, place, b',');
     put_value(out, second, other, b'\n')
 }

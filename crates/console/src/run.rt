@@ -1,11 +1,10 @@
 // The run program's console: a value that is handed the input piece by piece and says what is printed. Reading and writing are in run_plan.
-ghost use Rattle.std.specs.Prelude.{◌≡◌, ◌+◌, ◌≤◌, min, length, Some, IfSome};
+ghost use Rattle.std.specs.Prelude.{◌≡◌, ◌≤◌, length, Some, IfSome, Err};
 ghost use Rattle.plan.specs.Limits.{max_jobs};
 ghost use Rattle.executive.specs.Run.{start};
 ghost use Rattle.executive.specs.Step.{step};
-ghost use Rattle.console.specs.Run.{job_number, job_lines};
-ghost use Rattle.console.specs.Printed.{step_line_from};
-ghost use Rattle.console.specs.Pieces.{Piece, longest, CountsIn};
+ghost use Rattle.console.specs.Run.{job_lines_from};
+ghost use Rattle.console.specs.Pieces.{Piece, CountsIn};
 ghost use Rattle.console.specs.Console.{fresh_console, refuses, started_event, plan_event, line_ready, line_after, stepped_event, line_event, unread_output, end_in, is_stopped, run_room, turn_of, next_turn, next_out, end_length, end_written};
 ghost use Rattle.console.specs.Turns.{Told};
 ghost use Rattle.console.specs.declared.run.Stage.TheVariants.{Running};
@@ -14,10 +13,10 @@ ghost use Rattle.plan_text.specs.DecidedLaws.{is_final};
 
 use crate::print::{put_job_line, put_refused_line, put_step_line};
 use crate::reports::report_field;
-use answers::{Answer, Refusal};
-use executive::{Choice, Report, Run};
-use plan::Plan;
-use ready::Slot;
+use answers::Refusal;
+use entries::Entry;
+use executive::{Report, Run};
+use plan::{JOBS, Plan};
 
 // The room that one event's lines need at most: a line of each job.
 pub const RUN_ROOM: usize = 4096;
@@ -63,9 +62,8 @@ pub fn fresh_console() -> Console
 }
 
 // A refusal is printed, and the console stops.
-fn refused(c: Console, answer: Answer, out: &mut [u8]) -> Turn
-    requires { run_room ≤ length out.old }
-    ensures { Told (refuses c answer) out.old (Some result) out.new }
+fn refused(c: Console, refusal: Refusal, out: &mut [u8; RUN_ROOM]) -> Turn
+    ensures { Told (refuses c (Err refusal)) out.old (Some result) out.new }
 {
     Turn {
         console: Console {
@@ -73,18 +71,17 @@ fn refused(c: Console, answer: Answer, out: &mut [u8]) -> Turn
             ..c
         },
         used: 0,
-        printed: put_refused_line(out, 0, answer),
+        printed: put_refused_line(out, 0, refusal),
     }
 }
 
 // The run of the plan that was read begins.
-fn begun(c: Console, plan: Plan, used: usize, line: u16, out: &mut [u8]) -> Turn
-    requires { run_room ≤ length out.old }
+fn begun(c: Console, plan: Plan, used: usize, line: u16, out: &mut [u8; RUN_ROOM]) -> Turn
     ensures { Told (started_event c used line (start plan)) out.old (Some result) out.new }
 {
     let started = executive::start(plan);
-    if !answers::is_accepted(started.answer) {
-        return refused(c, started.answer, out);
+    if let Err(refusal) = started.answer {
+        return refused(c, refusal, out);
     }
     Turn {
         console: Console {
@@ -98,39 +95,29 @@ fn begun(c: Console, plan: Plan, used: usize, line: u16, out: &mut [u8]) -> Turn
 }
 
 // More text would not change this refusal: the line at fault is complete, or the bytes in hand are enough.
-fn is_final(text: &[u8], answer: Answer) -> bool
-    ensures { result ≡ is_final text.now answer }
+fn is_final(text: &[u8], refusal: Refusal) -> bool
+    ensures { result ≡ is_final text.now (Err refusal) }
 {
-    let line = answers::first_place(answer);
-    if lines::counting::has_lines(text, line) {
-        return true;
-    }
-    ENOUGH <= text.len()
+    lines::counting::has_lines(text, answers::first_place(Err(refusal))) || ENOUGH <= text.len()
 }
 
 // The plan at the start of the text, once it is there or can no longer be completed; until then None.
-fn take_plan(c: Console, text: &[u8], out: &mut [u8]) -> Option<Turn>
-    requires { run_room ≤ length out.old }
+fn take_plan(c: Console, text: &[u8], out: &mut [u8; RUN_ROOM]) -> Option<Turn>
     ensures { Told (plan_event c text.now) out.old result out.new }
 {
     let prefix = plan_text::reader::plan_prefix(text);
-    if answers::is_accepted(prefix.answer) {
-        return Some(begun(c, prefix.plan, prefix.next, prefix.line, out));
+    match prefix.answer {
+        Ok(()) => Some(begun(c, prefix.plan, prefix.next, prefix.line, out)),
+        Err(refusal) if is_final(text, refusal) => Some(refused(c, refusal, out)),
+        Err(_) => None,
     }
-    if !is_final(text, prefix.answer) {
-        return None;
-    }
-    Some(refused(c, prefix.answer, out))
 }
 
 // The first line's LF is in hand, or the line is too long to be of the form.
 fn line_ready(text: &[u8]) -> bool
     ensures { result ≡ line_ready text.now }
 {
-    if lines::reading::line_end(text, 0) < text.len() {
-        return true;
-    }
-    LONGEST_REPORT <= text.len()
+    lines::reading::line_end(text, 0) < text.len() || LONGEST_REPORT <= text.len()
 }
 
 // The number of the line after this one.
@@ -140,41 +127,15 @@ fn line_after(line: u16) -> u16
     if line < 65535 { line + 1 } else { line }
 }
 
-fn job_number(slot: Slot) -> u16
-    ensures { result ≡ job_number slot }
-{
-    match slot {
-        Slot::Job(k) => k,
-        Slot::Idle => 0,
-    }
-}
-
-// The step line: what was chosen, the phase and the current spares before the slot. `run` is the run before it.
-fn put_step(out: &mut [u8], run: Run, choice: Choice) -> usize
-    requires { run_room ≤ length out.old }
-    ensures { Piece longest 0 (step_line_from run choice) out.old result out.new }
-{
-    put_step_line(
-        out,
-        0,
-        run.t,
-        job_number(choice.slot),
-        run.phase,
-        choice.hi,
-        choice.lo,
-    )
-}
-
 // A report is applied: the step line and the next run, or a refusal.
-fn stepped(c: Console, report: Report, used: usize, out: &mut [u8]) -> Turn
-    requires { run_room ≤ length out.old }
+fn stepped(c: Console, report: Report, used: usize, out: &mut [u8; RUN_ROOM]) -> Turn
     ensures { Told (stepped_event c used (step c.run report)) out.old (Some result) out.new }
 {
     let after = c.run.step(report);
-    if !answers::is_accepted(after.answer) {
-        return refused(c, after.answer, out);
+    if let Err(refusal) = after.answer {
+        return refused(c, refusal, out);
     }
-    let printed = put_step(out, c.run, after.choice);
+    let printed = put_step_line(out, 0, &c.run, &after.choice);
     Turn {
         console: Console {
             stage: Stage::Running,
@@ -187,64 +148,49 @@ fn stepped(c: Console, report: Report, used: usize, out: &mut [u8]) -> Turn
 }
 
 // The report line at the start of the text, once it can be judged; until then None.
-fn take_line(c: Console, text: &[u8], out: &mut [u8]) -> Option<Turn>
-    requires { run_room ≤ length out.old }
+fn take_line(c: Console, text: &[u8], out: &mut [u8; RUN_ROOM]) -> Option<Turn>
     ensures { Told (line_event c text.now) out.old result out.new }
 {
     if !line_ready(text) {
         return None;
     }
     let Some((report, used)) = report_field(text) else {
-        return Some(refused(c, Err(Refusal::Form(c.line)), out));
+        return Some(refused(c, Refusal::Form(c.line), out));
     };
     Some(stepped(c, report, used, out))
 }
 
-// How many jobs the run has, for any plan record.
-fn listed_jobs(jobs: u16) -> usize
-    ensures { result ≡ min jobs max_jobs }
-{
-    let n = jobs as usize;
-    if n <= plan::JOBS { n } else { plan::JOBS }
-}
-
 // A line for each job, in order.
-fn put_job_lines(out: &mut [u8], run: Run) -> usize
-    requires { run_room ≤ length out.old }
-    ensures { Piece run_room 0 (job_lines run) out.old result out.new }
+fn put_job_lines(out: &mut [u8; RUN_ROOM], entries: &[Entry]) -> usize
+    requires { length entries.now ≤ max_jobs }
+    ensures { Piece run_room 0 (job_lines_from 1 entries.now) out.old result out.new }
 {
-    let count = listed_jobs(run.plan.jobs);
-    let entry = run.entry;
     let mut at = 0;
-    let mut i = 0;
-    while i < count {
-        at = put_job_line(out, at, 1 + i, entry[i]);
-        i += 1;
+    for (i, e) in entries.iter().enumerate() {
+        at = put_job_line(out, at, i + 1, *e);
     }
     at
 }
 
 // The refusal of a plan that the input ends in; a plan that is complete has none.
-fn put_unread(out: &mut [u8], text: &[u8]) -> usize
-    requires { run_room ≤ length out.old }
+fn put_unread(out: &mut [u8; RUN_ROOM], text: &[u8]) -> usize
     ensures { Piece run_room 0 (unread_output (plan_prefix text.now)) out.old result out.new }
 {
-    let prefix = plan_text::reader::plan_prefix(text);
-    if answers::is_accepted(prefix.answer) {
-        return 0;
+    match plan_text::reader::plan_prefix(text).answer {
+        Ok(()) => 0,
+        Err(refusal) => put_refused_line(out, 0, refusal),
     }
-    put_refused_line(out, 0, prefix.answer)
 }
 
 // The job lines; a line that is not finished is bad.
-fn put_rest(out: &mut [u8], text: &[u8], c: Console) -> usize
-    requires { run_room ≤ length out.old }
+fn put_rest(out: &mut [u8; RUN_ROOM], text: &[u8], c: Console) -> usize
     ensures { Piece run_room 0 (end_in Running c text.now) out.old result out.new }
 {
     if text.len() == 0 {
-        return put_job_lines(out, c.run);
+        let jobs = JOBS.min(usize::from(c.run.plan.jobs));
+        return put_job_lines(out, &c.run.entry[..jobs]);
     }
-    put_refused_line(out, 0, Err(Refusal::Form(c.line)))
+    put_refused_line(out, 0, Refusal::Form(c.line))
 }
 
 impl Console {
@@ -262,9 +208,7 @@ impl Console {
         ensures out_after { out.new ≡ next_out self text.now out.old }
         ensures used_in_bounds { IfSome result (λ turn. (turn.used ≤ length text.now) × CountsIn turn.printed out.new) }
     {
-        if out.len() < RUN_ROOM {
-            return None;
-        }
+        let out = out.first_chunk_mut::<RUN_ROOM>()?;
         match self.stage {
             Stage::Reading => take_plan(self, text, out),
             Stage::Running => take_line(self, text, out),
@@ -278,9 +222,9 @@ impl Console {
         ensures out_after { out.new ≡ end_written self text.now out.old }
         ensures counts_in { CountsIn result out.new }
     {
-        if out.len() < RUN_ROOM {
+        let Some(out) = out.first_chunk_mut::<RUN_ROOM>() else {
             return 0;
-        }
+        };
         match self.stage {
             Stage::Reading => put_unread(out, text),
             Stage::Running => put_rest(out, text, self),

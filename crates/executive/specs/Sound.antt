@@ -13,12 +13,7 @@ pub record Sound (r : Run) : Type 0 where
   pub border : r.t < max_slots
   pub named : table_at r.plan r.t ≤ max_jobs
 
--- a slot's job is one of the array
-abbrev pub Listed : Slot → Type 0
-Listed Slot.Idle = Unit {0}
-Listed (Slot.Job k) = k ≤ max_jobs
-
--- and has not had so many slots that one more could not be counted
+-- a slot's job is one of the array, and has not had so many slots that one more could not be counted
 abbrev pub Countable : Run → Slot → Type 0
 Countable r Slot.Idle = Unit {0}
 Countable r (Slot.Job k) = (k ≤ max_jobs) × ((entry_no r k).given < max_count)

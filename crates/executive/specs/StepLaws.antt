@@ -1,12 +1,10 @@
 -- Laws of one step, for the loops over a run's jobs: entries that expire, the return test, work stored job by job.
-use Rattle.std.specs.Prelude.{ℕ, zero, suc, ◌+◌, ◌-◌, ◌≤◌, ◌<◌, Bool, true, false, ◌&&◌, ◌≡◌, refl, List, [], ◌∷◌, take, drop, get_or, set, if◌then◌else◌}
-use Rattle.std.proofs.Common.{not-suc-le-zero, le_of_suc-le-suc, ap, sym, ◌∙◌, drop_of_length-le, length-take-le}
+use Rattle.std.specs.Prelude.{ℕ, zero, suc, ◌+◌, ◌-◌, ◌≤◌, ◌<◌, Bool, true, false, ◌&&◌, ◌≡◌, refl, List, [], ◌∷◌, take, get_or, set}
+use Rattle.std.proofs.Common.{not-suc-le-zero, le_of_suc-le-suc, ap}
 use Rattle.std.proofs.lemmas.List.{get_or_past}
 use Rattle.std.proofs.Math.Numerals.{add-one}
 use Rattle.std.specs.List.{list_all, zip}
-use native.Mathlib.Omega.{arith}
 use Rattle.std.proofs.Math.ListN.{length}
-use Rattle.std.proofs.Math.Seq.{drop-cons}
 use Rattle.plan.specs.declared.Job.{Job}
 use Rattle.plan.specs.Plan.{blank_job}
 use Rattle.words.specs.Words.{◌≤?◌}
@@ -14,10 +12,8 @@ use Rattle.entries.specs.declared.Entry.{Entry}
 use Rattle.executive.specs.declared.Run.{Run}
 use Rattle.ready.specs.declared.Slot.{Slot}
 use Rattle.entries.specs.declared.Kind.{Kind}
-use Rattle.executive.specs.declared.Phase.{Phase}
-use Rattle.entries.specs.Entry.{live, fresh_entry, ran_on, expired_entry, past_lo, settled}
-use Rattle.executive.specs.Step.{reported, expired_entries, expired, overrun, every_settled, can_return, phase_after, judged, refreshed, next_run}
-use Rattle.executive.specs.Sound.{Listed, Countable}
+use Rattle.entries.specs.Entry.{live, fresh_entry, expired_entry, past_lo, settled}
+use Rattle.executive.specs.Step.{reported, expired_entries, expired, overrun, every_settled, judged, refreshed, next_run}
 
 -- one entry more has met its border
 expired_next : (t i : ℕ) (js : List Job) (es : List Entry) (j : Job) (e : Entry) → i < length js → i < length es → set (expired_entries t (take i js) es) i (expired_entry t (get_or js i j) (get_or (expired_entries t (take i js) es) i e)) ≡ expired_entries t (take (suc i) js) es
@@ -45,11 +41,6 @@ never true false = refl
 never true true = refl
 
 module _ (r : Run) (slot : Slot) (k i : ℕ) (p : slot ≡ Slot.Job k) (q : i ≡ k - 1) where
-  -- a slot with a job, reported
-  pub ran : (kind : Kind) (e : Entry) → e ≡ ran_on kind (r.t + 1) (get_or r.plan.job i blank_job) (get_or r.entry i fresh_entry) → record { plan = r.plan; t = r.t + 1; phase = r.phase; hi = r.hi; lo = r.lo; entry = set r.entry i e } ≡ reported r slot kind
-  unfolding reported
-  ran kind e h = rw (p, h, q)
-
   -- a number beyond the jobs has the blank job, a LO one
   pub none_beyond : length r.plan.job ≤ i → overrun r slot ≡ false
   unfolding overrun past_lo
@@ -72,8 +63,3 @@ after_plan r after slot e = ap (λ (x : Run). x.plan) e
 pub next_of : (r told left after : Run) (slot : Slot) (kind : Kind) → told ≡ reported r slot kind → left ≡ expired told → after ≡ judged left slot → (next : Run) → next ≡ refreshed after → next ≡ next_run r slot kind
 unfolding next_run
 next_of r told left after slot kind e e' e'' next h = rw (h, e'', e', e)
-
--- a slot whose job can be counted on is one of the array
-pub countable_listed : (r : Run) (slot : Slot) → Countable r slot → Listed slot
-countable_listed r Slot.Idle h = tt
-countable_listed r (Slot.Job k) h = h.0

@@ -6,7 +6,7 @@ ghost use Rattle.entries.specs.Entry.{live};
 use crate::going::Going;
 use crate::{Choice, Phase};
 use entries::{Entry, is_live};
-use ready::{Slot, earliest, index, ready_set};
+use ready::{Slot, earliest, index, ready_hi_set};
 use spares::Spare;
 
 // The table's job k has its slot when it is live.
@@ -30,24 +30,24 @@ impl Going {
     fn chosen_t(self) -> Slot
         ensures { result ≡ chosen_t self.run }
     {
-        let r = self.run;
+        let r = &self.run;
         let k = r.plan.table[usize::from(r.t)];
         if has_slot(k, r.entry[index(k)]) {
             return Slot::Job(k);
         }
-        earliest(r.plan.job, self.ready)
+        earliest(&r.plan.job, self.ready)
     }
 
     // Phase H.
     fn chosen_h(self) -> Slot
         ensures { result ≡ chosen_h self.run }
     {
-        let r = self.run;
+        let r = &self.run;
         if open_to_all(self.hi, self.lo) {
-            return earliest(r.plan.job, self.ready);
+            return earliest(&r.plan.job, self.ready);
         }
-        let ready_hi = ready_set(true, r.t, r.plan.job, r.entry, r.plan.jobs);
-        earliest(r.plan.job, ready_hi)
+        let ready_hi = ready_hi_set(r.t, &r.plan.job, &r.entry, r.plan.jobs);
+        earliest(&r.plan.job, ready_hi)
     }
 
     fn chosen(self) -> Slot

@@ -15,7 +15,9 @@ use spares::Rows;
 fn entries_hold(t: u16, job: &[Job], entry: &[Entry]) -> bool
     ensures { result ≡ all_hold t job.now entry.now }
 {
-    job.iter().zip(entry).all(|(j, e)| standing_holds(t, j.hi, e.given, e.standing))
+    job.iter()
+        .zip(entry)
+        .all(|(j, e)| standing_holds(t, j.hi, e.given, e.standing))
 }
 
 impl Run {
@@ -24,7 +26,13 @@ impl Run {
         requires { (self.plan.jobs ≤ max_jobs) × (layout ≡ layout_of self.plan) }
         ensures { result ≡ refreshed self }
     {
-        let Rows { hi, lo } = spares::rows_of(layout, self.t, self.plan.job, self.entry, self.plan.jobs);
+        let Rows { hi, lo } = spares::rows_of(
+            &layout,
+            self.t,
+            &self.plan.job,
+            &self.entry,
+            self.plan.jobs,
+        );
         Run { hi, lo, ..self }
     }
 
@@ -33,14 +41,20 @@ impl Run {
         ensures { result ≡ (if coherent self then Some (layout_of self.plan) else None) }
     {
         well_formed::well_formed(self.plan).ok()?;
-        if self.plan.slots < self.t || !entries_hold(self.t, self.jobs(), &self.entry) {
+        if self.plan.slots < self.t {
             return None;
         }
-        let layout = intervals::layout_of(self.plan);
-        let fresh = spares::rows_of(layout, self.t, self.plan.job, self.entry, self.plan.jobs);
-        if spares::same_row(self.hi, fresh.hi) && spares::same_row(self.lo, fresh.lo) {
-            return Some(layout);
+        if !entries_hold(self.t, self.jobs(), &self.entry) {
+            return None;
         }
-        None
+        let layout = intervals::layout_of(&self.plan);
+        let fresh = self.refreshed(layout);
+        if !spares::same_row(&self.hi, &fresh.hi) {
+            return None;
+        }
+        if !spares::same_row(&self.lo, &fresh.lo) {
+            return None;
+        }
+        Some(layout)
     }
 }

@@ -29,27 +29,24 @@ pub(crate) struct Going {
 }
 
 impl Run {
-    ghost use Rattle.std.specs.Prelude.{OnOk, OnErr, Err};
+    ghost use Rattle.std.specs.Prelude.{IfOk, IfErr, Err};
     ghost use Rattle.executive.specs.Choice.{can_go_on};
 
     // 10, then 11.
     pub(crate) fn going(self) -> Result<Going, Refusal>
-        ensures going { OnOk result (λ g. g.run ≡ self) }
-        ensures refused { OnErr result (λ e. Err e ≡ can_go_on self) }
+        ensures going { IfOk result (λ g. g.run ≡ self) }
+        ensures refused { IfErr result (λ e. Err e ≡ can_go_on self) }
     {
         let layout = self.coherent_layout().ok_or(Refusal::Incoherent)?;
         if self.plan.slots <= self.t {
             return Err(Refusal::Over(self.t));
         }
-        let hi = spares::current(layout, self.t, self.hi);
-        let lo = spares::current(layout, self.t, self.lo);
-        let ready = ready_set(false, self.t, self.plan.job, self.entry, self.plan.jobs);
         Ok(Going {
             run: self,
             layout,
-            hi,
-            lo,
-            ready,
+            hi: spares::current(&layout, self.t, &self.hi),
+            lo: spares::current(&layout, self.t, &self.lo),
+            ready: ready_set(self.t, &self.plan.job, &self.entry, self.plan.jobs),
         })
     }
 }

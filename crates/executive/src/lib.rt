@@ -1,7 +1,7 @@
 // The run of an accepted plan, slot by slot: start, coherence, choice, report, expiry, phase. Texts and programs are above.
 #![tactic(auto)]
 
-ghost use Rattle.std.specs.Prelude.{◌≡◌, OnOk, OnErr, Err};
+ghost use Rattle.std.specs.Prelude.{◌≡◌, IfOk, IfErr, Err};
 ghost use Rattle.answers.specs.Answer.{Accepted};
 ghost use Rattle.plan.specs.Plan.{jobs_of};
 ghost use Rattle.executive.specs.declared.Stepped.{Stepped};
@@ -74,16 +74,13 @@ pub struct Stepped {
 pub fn blank_run() -> Run
     ensures { result ≡ blank_run }
 {
-    let hi = spares::blank_row();
-    let lo = spares::blank_row();
-    let entry = entries::fresh_entries();
     Run {
         plan: plan::blank_plan(),
         t: 0,
         phase: Phase::T,
-        hi,
-        lo,
-        entry,
+        hi: spares::blank_row(),
+        lo: spares::blank_row(),
+        entry: entries::fresh_entries(),
     }
 }
 
@@ -98,14 +95,13 @@ pub fn start(p: Plan) -> Started
             run: blank_run(),
         };
     }
-    let entry = entries::fresh_entries();
     let run = Run {
         plan: p,
         t: 0,
         phase: Phase::T,
         hi,
         lo,
-        entry,
+        entry: entries::fresh_entries(),
     };
     Started { answer, run }
 }
@@ -151,8 +147,8 @@ impl Run {
 
     // The next run and the choice that was made, or 10 to 13.
     fn try_step(self, report: Report) -> Result<(Run, Choice), Refusal>
-        ensures stepped { OnOk result (λ s. ◌≡◌ {A = Stepped} (record { answer = Accepted; run = s.0; choice = s.1 }) (step self report)) }
-        ensures refused { OnErr result (λ e. refused_step self (Err e) ≡ step self report) }
+        ensures stepped { IfOk result (λ s. ◌≡◌ {A = Stepped} (record { answer = Accepted; run = s.0; choice = s.1 }) (step self report)) }
+        ensures refused { IfErr result (λ e. refused_step self (Err e) ≡ step self report) }
     {
         let going = self.going()?;
         if report.slot != self.t {

@@ -52,7 +52,10 @@ fn expired_entries(t: u16, job: &[Job], before: [Entry; JOBS]) -> [Entry; JOBS]
 fn every_settled(job: &[Job], entry: &[Entry], counts: &[u16]) -> bool
     ensures { result ≡ every_settled job.now entry.now counts.now }
 {
-    job.iter().zip(entry).zip(counts).all(|((j, e), count)| settled(*j, *e, *count))
+    job.iter()
+        .zip(entry)
+        .zip(counts)
+        .all(|((j, e), count)| settled(*j, *e, *count))
 }
 
 impl Run {
@@ -80,8 +83,10 @@ impl Run {
     fn expired(self) -> Run
         ensures { result ≡ expired self }
     {
-        let entry = expired_entries(self.t, self.jobs(), self.entry);
-        Run { entry, ..self }
+        Run {
+            entry: expired_entries(self.t, self.jobs(), self.entry),
+            ..self
+        }
     }
 
     // The reported HI job is live and has had its lo.

@@ -10,7 +10,7 @@ ghost use Rattle.intervals.specs.Deadlines.{Windowed};
 ghost use Rattle.intervals.specs.Laid.{laid, all_intervals};
 
 use by_deadline::{homes_by, longest_windows, next_deadline, places_by_end};
-use plan::{JOBS, Job, Plan, first_jobs};
+use plan::{JOBS, Job, Plan, jobs_of};
 
 mod by_deadline;
 
@@ -95,7 +95,7 @@ fn plan_intervals(p: &Plan) -> Layout
     ensures { result ≡ laid (intervals p.now) }
 {
     if plan::windows_hold(*p) {
-        intervals_of(first_jobs(&p.job, p.jobs), p.slots)
+        intervals_of(jobs_of(p), p.slots)
     } else {
         empty_layout()
     }
@@ -107,7 +107,7 @@ pub fn layout_of(p: &Plan) -> Layout
 {
     let bare = plan_intervals(p);
     let place = places_by_end(bare.listed());
-    let home = homes_by(&place, first_jobs(&p.job, p.jobs));
+    let home = homes_by(&place, jobs_of(p));
     Layout { home, ..bare }
 }
 

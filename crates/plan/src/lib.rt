@@ -2,11 +2,11 @@
 // The text is in plan_text, the judgement of a whole plan in acceptance.
 #![tactic(auto)]
 
-ghost use Rattle.std.specs.Prelude.{◌≡◌, map, ◌≤◌, ◌<◌, length, take};
+ghost use Rattle.std.specs.Prelude.{◌≡◌, map, take, length, ◌≤◌, ◌<◌};
 ghost use Rattle.words.specs.Words.{every};
 ghost use Rattle.answers.specs.Answer.{SlotLimit, JobLimit, ◌unless◌};
 ghost use Rattle.plan.specs.Limits.{max_slots, max_jobs, one_to};
-ghost use Rattle.plan.specs.Plan.{blank_job, blank_plan, is_hi, counts_at};
+ghost use Rattle.plan.specs.Plan.{blank_job, blank_plan, jobs_of, is_hi, counts_at};
 ghost use Rattle.plan.specs.Rules.{window_holds, budget_holds, windows_hold};
 ghost use Rattle.plan.specs.Counts.{counted_with};
 
@@ -91,6 +91,14 @@ pub fn first_jobs(job: &[Job; JOBS], n: u16) -> &[Job]
     &job[..JOBS.min(usize::from(n))]
 }
 
+// The jobs of a plan; of a record with a larger n all that it has.
+pub fn jobs_of(p: &Plan) -> &[Job]
+    ensures jobs { result.now ≡ jobs_of p.now }
+    ensures few { length result.now ≤ max_jobs }
+{
+    first_jobs(&p.job, p.jobs)
+}
+
 // 2: N not 1..512.
 pub fn slot_limit(slots: u16) -> Answer
     ensures { result ≡ (SlotLimit unless one_to max_slots slots) }
@@ -141,9 +149,7 @@ fn every_window(jobs: &[Job], slots: u16) -> bool
 pub fn windows_hold(p: Plan) -> bool
     ensures { result ≡ windows_hold p }
 {
-    one_to(SLOTS, p.slots)
-        && one_to(JOBS, p.jobs)
-        && every_window(&p.job[..usize::from(p.jobs)], p.slots)
+    one_to(SLOTS, p.slots) && one_to(JOBS, p.jobs) && every_window(jobs_of(&p), p.slots)
 }
 
 // The counts with one more for job k.

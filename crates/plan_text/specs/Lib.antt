@@ -8,4 +8,5 @@ pub mod DecidedLaws
 pub mod Reader
 pub mod ReaderLaws
 pub mod PrefixLaws
+pub mod Sheet
 pub mod WriterLaws

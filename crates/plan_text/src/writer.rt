@@ -4,7 +4,8 @@ ghost use Rattle.std.specs.Prelude.{◌≡◌, ◌+◌, ◌≤◌, length, take,
 ghost use mathlib.Core.List.{◌++◌, flat_map};
 ghost use Rattle.answers.specs.Answer.{first_refusal};
 ghost use Rattle.lines.specs.Lines.{digits, line, number_line};
-ghost use Rattle.lines.specs.Writing.{put_fit, place_after};
+ghost use Rattle.lines.specs.Writing.{number_line_of};
+ghost use Rattle.plan_text.specs.Sheet.{Puts};
 ghost use Rattle.plan_text.specs.Read.{level_text, job_text, plan_text};
 ghost use Rattle.plan_text.specs.Write.{numbers_fit, write_answer, write_out};
 ghost use Rattle.plan_text.specs.Parts.{numbers_in, four_digits};
@@ -104,29 +105,43 @@ fn text_len(p: &Plan) -> usize
     13 + digit_count(p.slots) + digit_count(p.jobs) + jobs + slots
 }
 
-// The line of a level.
-fn put_level(out: &mut [u8], at: usize, level: Level) -> usize
-    ensures value { result ≡ place_after at (line "level=" (level_text level)) out.old }
-    ensures out_after { out.new ≡ put_fit at (line "level=" (level_text level)) out.old }
-{
-    match level {
-        Level::Lo => writing::put_bytes(out, at, b"level=LO\n"),
-        Level::Hi => writing::put_bytes(out, at, b"level=HI\n"),
-    }
+// An output and the place in it where the next line goes.
+#[derive(Drop)]
+struct Sheet<'a> {
+    out: &'a mut [u8],
+    at: usize,
 }
 
-// A job's five lines, which have room.
-#[tactic(auto, using(crate::specs::WriterLaws::job_pieces))]
-fn put_job(out: &mut [u8], at: usize, job: &Job) -> usize
-    requires { at + length (job_text job.now) ≤ length out.old }
-    ensures value { result ≡ place_after at (job_text job.now) out.old }
-    ensures out_after { out.new ≡ put_fit at (job_text job.now) out.old }
-{
-    let at = put_level(out, at, job.level);
-    let at = writing::put_line(out, at, b"release=", u32::from(job.release));
-    let at = writing::put_line(out, at, b"deadline=", u32::from(job.deadline));
-    let at = writing::put_line(out, at, b"lo=", u32::from(job.lo));
-    writing::put_line(out, at, b"hi=", u32::from(job.hi))
+impl<'a> Sheet<'a> {
+    // A line of a key and a number.
+    fn line(&mut self, key: &[u8], n: u16)
+        ensures { Puts (number_line_of key.now n) self.old self.new }
+    {
+        self.at = writing::put_line(self.out, self.at, key, u32::from(n));
+    }
+
+    // The line of a level.
+    fn level(&mut self, level: Level)
+        ensures { Puts (line "level=" (level_text level)) self.old self.new }
+    {
+        self.at = match level {
+            Level::Lo => writing::put_bytes(self.out, self.at, b"level=LO\n"),
+            Level::Hi => writing::put_bytes(self.out, self.at, b"level=HI\n"),
+        };
+    }
+
+    // A job's five lines, which have room.
+    #[tactic(auto, using(crate::specs::WriterLaws::job_pieces))]
+    fn job(&mut self, job: &Job)
+        requires { self.old.at + length (job_text job.now) ≤ length self.old.out.now }
+        ensures { Puts (job_text job.now) self.old self.new }
+    {
+        self.level(job.level);
+        self.line(b"release=", job.release);
+        self.line(b"deadline=", job.deadline);
+        self.line(b"lo=", job.lo);
+        self.line(b"hi=", job.hi);
+    }
 }
 
 // The whole text from the start of the output, which has room for it.
@@ -135,15 +150,16 @@ fn put_plan(out: &mut [u8], p: &Plan) -> usize
     ensures value { result ≡ length (plan_text p.now) }
     ensures out_after { out.new ≡ plan_text p.now ++ drop (length (plan_text p.now)) out.old }
 {
-    let at = writing::put_line(out, 0, b"slots=", u32::from(p.slots));
-    let mut at = writing::put_line(out, at, b"jobs=", u32::from(p.jobs));
+    let mut sheet = Sheet { out, at: 0 };
+    sheet.line(b"slots=", p.slots);
+    sheet.line(b"jobs=", p.jobs);
     for job in first(&p.job, p.jobs) {
-        at = put_job(out, at, job);
+        sheet.job(job);
     }
     for name in first(&p.table, p.slots) {
-        at = writing::put_line(out, at, b"slot=", u32::from(*name));
+        sheet.line(b"slot=", *name);
     }
-    at
+    sheet.at
 }
 
 // The text of a plan. Checked are 2, 3, 1 and 14; a refusal leaves the output as it was, and so are the bytes past the text.

@@ -17,6 +17,7 @@ const PLAN: usize = 11 + 10 + plan::JOBS * 52 + plan::SLOTS * 10;
 const HELD: usize = PLAN + 4096;
 
 // One event for the text, or nothing where the console waits; what it prints is at the start of the output.
+#[tactic(auto, using(crate::specs::LoopLaws::turn_answered))]
 fn answered(c: Console, text: &[u8], out: &mut [u8]) -> Option<Turn>
     requires { run_room ≤ length out.old }
     ensures { Answered c text.now result out.new }
@@ -26,6 +27,7 @@ fn answered(c: Console, text: &[u8], out: &mut [u8]) -> Option<Turn>
 
 // Events until the console waits, each printed before the next one: the console then, and how much of the text is done with.
 // Nothing where a write failed.
+#[tactic(auto, using(crate::specs::LoopLaws::near_on, crate::specs::LoopLaws::near_rest))]
 fn settled<W: Write>(
     rt: &impl Eprint,
     output: &mut W,
@@ -59,6 +61,7 @@ struct Session {
 
 impl Session {
     // Before any input.
+    #[tactic(auto, using(crate::specs::LoopLaws::stands_first))]
     fn new() -> Session
         ensures { Standing result.console (take result.n result.held) }
     {
@@ -70,6 +73,7 @@ impl Session {
     }
 
     // The end of input; what it prints is at the start of the output.
+    #[tactic(auto, using(crate::specs::LoopLaws::ends))]
     fn end(&self, out: &mut [u8]) -> usize
         requires standing { Standing self.now.console (take self.now.n self.now.held) }
         requires room { run_room ≤ length out.old }
@@ -80,6 +84,7 @@ impl Session {
 
     // One read, and all that can then be answered; at the end of input the last lines. Nothing where the program ends.
     // A read that fails prints nothing.
+    #[tactic(auto, using(crate::specs::LoopLaws::stands_on, crate::specs::LoopLaws::moved, crate::specs::LoopLaws::moved_few))]
     fn turn<R: Read, W: Write>(
         &mut self,
         rt: &impl Eprint,

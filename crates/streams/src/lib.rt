@@ -3,7 +3,7 @@
 // Any other failure is said in one line on standard error. What the bytes mean is not here.
 #![tactic(auto)]
 
-ghost use Rattle.std.specs.Prelude.{◌≤◌, ◌≡◌, length, is_ok};
+ghost use Rattle.std.specs.Prelude.{◌≤◌, ◌≡◌, length, is_ok, IsErr};
 ghost use Rattle.std.specs.IoError.{error_kind};
 ghost use Rattle.streams.specs.Streams.{ReadAfter, passes};
 
@@ -52,7 +52,8 @@ pub fn read_after<R: Read>(
     held: &mut [u8],
     n: usize,
 ) -> io::Result<usize>
-    ensures { ReadAfter n held.old result held.new }
+    ensures read { ReadAfter n held.old result held.new }
+    ensures no_room { length held.old ≤ n → IsErr result }
 {
     if held.len() <= n {
         return Err(ErrorKind::InvalidInput.into());

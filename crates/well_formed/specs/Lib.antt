@@ -2,6 +2,6 @@ pub mod Runs
 pub mod WellFormed
 pub mod InOrder
 pub mod RunWords
-pub mod Parts
 pub mod RunLaws
 pub mod InOrderLaws
+pub mod PlaceLaws

@@ -1,13 +1,14 @@
 // Checks 2 to 7 and 17 of a plan record. 8 is in window_sums, 9 and the analysis are in acceptance.
 #![tactic(auto)]
 
-ghost use Rattle.std.specs.Prelude.{◌≡◌, true, ◌&&◌, ◌||◌, ◌-◌, ◌≤◌, ◌<◌, take};
+ghost use Rattle.std.specs.Prelude.{◌≡◌, ◌&&◌, ◌||◌, ◌+◌, ◌-◌, ◌≤◌, ◌<◌, length, get_or, Err, IfSome};
+ghost use Rattle.std.specs.Option.{MatchOption};
+ghost use Rattle.std.specs.Result.{MatchResult, IsErrAnd};
 ghost use Rattle.words.specs.Words.{◌≤?◌, ◌<?◌, ◌=?◌};
-ghost use Rattle.answers.specs.Answer.{accepted};
+ghost use Rattle.answers.specs.Answer.{Accepted};
 ghost use Rattle.plan.specs.Limits.{max_slots, max_jobs};
-ghost use Rattle.plan.specs.Plan.{slots_of, counts_at};
-ghost use Rattle.well_formed.specs.WellFormed.{check6, well_formed};
-ghost use Rattle.well_formed.specs.Parts.{windows_from, budgets_from, counts_from, chopped_from};
+ghost use Rattle.plan.specs.Plan.{blank_job, slots_of, counts_at};
+ghost use Rattle.well_formed.specs.WellFormed.{check4, check5, check6, check7, check17, well_formed};
 ghost use Rattle.well_formed.specs.RunWords.{no_runs, runs_with, runs_from};
 
 use answers::{Answer, Refusal};
@@ -16,71 +17,56 @@ use plan::{Job, Plan};
 // A job's table slots form at most so many runs.
 const MAX_RUNS: u16 = 4;
 
-// 4: the first of the jobs whose window breaks r < d <= N.
-fn check4(job: [Job; plan::JOBS], jobs: u16, slots: u16) -> Answer
-    requires { jobs ≤ max_jobs }
-    ensures { result ≡ windows_from slots (take jobs job) }
+// The refusal with a job's number, where a rule is found broken at its place.
+fn refused<R: Fn(u16) -> Refusal>(place: Option<usize>, refusal: R) -> Answer
+    requires callable { R.IsAlwaysCallable refusal }
+    requires within { IfSome place (λ i. i < max_jobs) }
+    ensures { MatchOption place (result ≡ Accepted) (λ i. IsErrAnd result (λ e. R.post refusal (i + 1) e)) }
 {
-    let mut k: u16 = 0;
-    while k < jobs {
-        let i = k as usize;
-        let j = job[i];
-        if !plan::window_holds(slots, j) {
-            return Err(Refusal::Window(k + 1));
-        }
-        k += 1;
+    match place {
+        Some(i) => Err(refusal(i as u16 + 1)),
+        None => Ok(()),
     }
-    Ok(())
+}
+
+// 4: the first of the jobs whose window breaks r < d <= N.
+fn check4(p: &Plan) -> Answer
+    ensures { result ≡ check4 p.now }
+{
+    let jobs = plan::jobs_of(p);
+    refused(
+        jobs.iter().position(|j| !plan::window_holds(p.slots, *j)),
+        Refusal::Window,
+    )
 }
 
 // 5: the first of the jobs that breaks a budget rule.
-fn check5(job: [Job; plan::JOBS], jobs: u16, slots: u16) -> Answer
-    requires { jobs ≤ max_jobs }
-    ensures { result ≡ budgets_from slots (take jobs job) }
+fn check5(p: &Plan) -> Answer
+    ensures { result ≡ check5 p.now }
 {
-    let mut k: u16 = 0;
-    while k < jobs {
-        let i = k as usize;
-        let j = job[i];
-        if !plan::budget_holds(slots, j) {
-            return Err(Refusal::Budget(k + 1));
-        }
-        k += 1;
-    }
-    Ok(())
+    let jobs = plan::jobs_of(p);
+    refused(
+        jobs.iter().position(|j| !plan::budget_holds(p.slots, *j)),
+        Refusal::Budget,
+    )
 }
 
-// Where job k stands in the array of jobs; 0 for a k that names none.
-fn place_of(k: u16) -> usize
-    ensures { (result < max_jobs) × (k ≤ max_jobs → result ≡ k - 1) }
+// The table's entry k for slot t is idle, or names one of the jobs within its window.
+fn entry_holds(jobs: &[Job], t: u16, k: u16) -> bool
+    ensures { result ≡ ((k =? 0) || ((k ≤? length jobs.now) && ((get_or jobs.now (k - 1) blank_job).release ≤? t) && (t <? (get_or jobs.now (k - 1) blank_job).deadline))) }
 {
-    if k < 1 {
-        return 0;
-    }
-    let at = plan::wide(k - 1);
-    if at < plan::JOBS { at } else { 0 }
-}
-
-// The table's entry k for slot t is idle, or names one of the n jobs within the window of j.
-fn entry_holds(jobs: u16, j: Job, t: u16, k: u16) -> bool
-    ensures { result ≡ ((k =? 0) || ((k ≤? jobs) && (j.release ≤? t) && (t <? j.deadline))) }
-{
-    if k < 1 {
+    if k == 0 {
         return true;
     }
-    if jobs < k {
-        return false;
+    match jobs.get(usize::from(k) - 1) {
+        Some(j) => j.release <= t && t < j.deadline,
+        None => false,
     }
-    if t < j.release {
-        return false;
-    }
-    t < j.deadline
 }
 
-// What the scan of the table gives: the answer of check 6 and, where it accepts, the table slots and the runs of each job.
+// The table slots and the runs of each job, as the scan of a table that check 6 accepts gives them.
 #[derive(Clone, Copy)]
 struct Scanned {
-    answer: Answer,
     counts: [u16; plan::JOBS],
     runs: [u16; plan::JOBS],
 }
@@ -89,78 +75,52 @@ struct Scanned {
 fn count_run(runs: &mut [u16; plan::JOBS], before: u16, k: u16)
     ensures { runs.new ≡ runs_with runs.old before k }
 {
-    if k == before {
-        return;
+    if k != before {
+        plan::count_slot(runs, k);
     }
-    plan::count_slot(runs, k);
 }
 
 // 6: one scan of the first N slots, which counts them for check 7 and their runs for check 17.
-fn check6(p: Plan) -> Scanned
-    requires { (p.slots ≤ max_slots) × (p.jobs ≤ max_jobs) }
-    ensures { (result.answer ≡ check6 p) × (accepted result.answer ≡ true → (result.counts ≡ counts_at p p.slots) × (result.runs ≡ runs_from 0 no_runs (slots_of p))) }
+fn check6(p: &Plan) -> Result<Scanned, Refusal>
+    requires { (p.now.slots ≤ max_slots) × (p.now.jobs ≤ max_jobs) }
+    ensures { MatchResult result (λ s. (check6 p.now ≡ Accepted) × (s.counts ≡ counts_at p.now p.now.slots) × (s.runs ≡ runs_from 0 no_runs (slots_of p.now))) (λ e. check6 p.now ≡ Err e) }
 {
-    let slots = p.slots;
-    let jobs = p.jobs;
-    let mut counts = [0u16; plan::JOBS];
-    let mut runs = [0u16; plan::JOBS];
-    let mut before: u16 = 0;
-    let mut t: u16 = 0;
-    while t < slots {
-        let i = t as usize;
-        let k = p.table[i];
-        let at = place_of(k);
-        let j = p.job[at];
-        if !entry_holds(jobs, j, t, k) {
-            return Scanned {
-                answer: Err(Refusal::TableSlot(t)),
-                counts: counts,
-                runs: runs,
-            };
+    let jobs = plan::jobs_of(p);
+    let mut counts = [0; plan::JOBS];
+    let mut runs = [0; plan::JOBS];
+    let mut before = 0;
+    for t in 0..p.slots {
+        let k = p.table[usize::from(t)];
+        if !entry_holds(jobs, t, k) {
+            return Err(Refusal::TableSlot(t));
         }
         plan::count_slot(&mut counts, k);
         count_run(&mut runs, before, k);
         before = k;
-        t += 1;
     }
-    Scanned {
-        answer: Ok(()),
-        counts: counts,
-        runs: runs,
-    }
+    Ok(Scanned { counts, runs })
 }
 
-// 7: the first of the jobs whose table slots are not lo in number.
-fn check7(job: [Job; plan::JOBS], jobs: u16, counts: [u16; plan::JOBS]) -> Answer
-    requires { jobs ≤ max_jobs }
-    ensures { result ≡ counts_from counts (take jobs job) }
+// 7: the first of the jobs whose table slots are not lo in number, by the counts of the whole table.
+fn check7(p: &Plan, counts: [u16; plan::JOBS]) -> Answer
+    ensures { counts ≡ counts_at p.now p.now.slots → result ≡ check7 p.now }
 {
-    let mut k: u16 = 0;
-    while k < jobs {
-        let i = k as usize;
-        let j = job[i];
-        if counts[i] != j.lo {
-            return Err(Refusal::TableCount(k + 1));
-        }
-        k += 1;
-    }
-    Ok(())
+    let jobs = plan::jobs_of(p);
+    refused(
+        jobs.iter()
+            .zip(counts.iter())
+            .position(|(j, count)| *count != j.lo),
+        Refusal::TableCount,
+    )
 }
 
-// 17: the first of the jobs with more than four runs.
-fn check17(runs: [u16; plan::JOBS], jobs: u16) -> Answer
-    requires { jobs ≤ max_jobs }
-    ensures { result ≡ chopped_from (take jobs runs) }
+// 17: the first of the jobs with more than four runs, by the runs of the whole table.
+fn check17(p: &Plan, runs: [u16; plan::JOBS]) -> Answer
+    requires { p.now.slots ≤ max_slots }
+    ensures { runs ≡ runs_from 0 no_runs (slots_of p.now) → result ≡ check17 p.now }
 {
-    let mut k: u16 = 0;
-    while k < jobs {
-        let i = k as usize;
-        if MAX_RUNS < runs[i] {
-            return Err(Refusal::Chopped(k + 1));
-        }
-        k += 1;
-    }
-    Ok(())
+    let runs = &runs[..plan::jobs_of(p).len()];
+    refused(runs.iter().position(|n| MAX_RUNS < *n), Refusal::Chopped)
 }
 
 // Checks 2 to 7 and 17, in their order.
@@ -169,13 +129,9 @@ pub fn well_formed(p: Plan) -> Answer
 {
     plan::slot_limit(p.slots)?;
     plan::job_limit(p.jobs)?;
-    let job = p.job;
-    check4(job, p.jobs, p.slots)?;
-    check5(job, p.jobs, p.slots)?;
-    let scanned = check6(p);
-    scanned.answer?;
-    let counts = scanned.counts;
-    check7(job, p.jobs, counts)?;
-    let runs = scanned.runs;
-    check17(runs, p.jobs)
+    check4(&p)?;
+    check5(&p)?;
+    let scanned = check6(&p)?;
+    check7(&p, scanned.counts)?;
+    check17(&p, scanned.runs)
 }

@@ -4,4 +4,4 @@ use Rattle.intervals.proofs.layout_of.Goals as goal
 
 pub returns : goal.returns
 returns c =
-    laid_homed c.args.p.now c.plan_intervals-bare.result _ _ c.plan_intervals-bare.ensures (rw c.listed.ensures.all at c.places_by_end-place.ensures) (rw c.first_jobs.ensures.all at c.homes_by-home.ensures)
+    laid_homed c.args.p.now c.plan_intervals-bare.result _ _ c.plan_intervals-bare.ensures (rw c.listed.ensures.all at c.places_by_end-place.ensures) (rw c.jobs_of.ensures.jobs at c.homes_by-home.ensures)

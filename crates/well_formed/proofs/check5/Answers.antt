@@ -1,39 +1,19 @@
--- `check5` meets its contract: the answer from a job on is the whole answer.
-use Prim.Native.Nat.{ℕ, ◌≤◌}
-use native.Mathlib.Omega.{arith}
-use mathlib.Core.Bool.{Bool}
-use mathlib.Core.Path.{◌≡◌, refl, sym, ◌∙◌}
-use lib.ListN.{length}
+-- `check5` meets its contract: the search finds the first job that breaks the rule.
+use Rattle.std.proofs.lemmas.Iterator.{YieldsList-from_slice}
+use Rattle.std.proofs.lemmas.Iterator.Search.{position_from_yields_List}
+use Rattle.std.specs.Prelude.{not}
 use borrow.Author.Rules.{rules}
-use Rattle.words.specs.ListLaws.{long}
-use Rattle.answers.specs.Answer.{Answer, Budget, accepted}
-use Rattle.answers.specs.AnswerLaws.{first_end_lem}
-use Rattle.plan.specs.declared.Job.{Job}
-use Rattle.plan.specs.Limits.{max_jobs}
-use Rattle.plan.specs.Plan.{blank_job}
+use borrow.Author.Tests.{tests}
+use Rattle.answers.specs.declared.Refusal.{Refusal}
 use Rattle.plan.specs.Rules.{budget_holds}
-use Rattle.answers.specs.AnswerLaws.{rule_on, rule_found}
-use Rattle.well_formed.proofs.check5.Invariants.{judge}
+use Rattle.well_formed.specs.WellFormed.{check5}
+use Rattle.well_formed.specs.PlaceLaws.{told_at}
 use Rattle.well_formed.proofs.check5.Goals as goal
-use Rattle.well_formed.proofs.check5.Goals.{Start}
-
-abbrev refusal : ℕ → Job → Answer
-refusal k j = Budget k
-
-abbrev rule : ℕ → ℕ → Job → Bool
-rule N k j = budget_holds N j
-
-full : (c : Start) → c.args.jobs ≤ length c.args.job
-full c = let l : length c.args.job ≡ max_jobs = search (rules, long) in omega (arith, c.requires)
-
-pub returns-then-not-budget_holds : goal.returns-then-not-budget_holds
-unfolding accepted
-returns-then-not-budget_holds c =
-    rule_found refusal (rule _) _ _ _ _ blank_job (full (goal.at.returns-then-not-budget_holds c).Start) c.loop-k-test.true refl (sym c.budget_holds.ensures ∙ c.if-not-budget_holds.true) ∙ c.loop-k.invariant.2
-
-pub loop-k-preserved : goal.loop-k-preserved
-loop-k-preserved c =
-    (search rules, c.loop-k.invariant.1, rule_on refusal (rule _) _ _ _ _ blank_job (full (goal.at.loop-k-preserved c).Start) c.loop-k-test.true (sym c.budget_holds.ensures ∙ c.if-not-budget_holds.false) ∙ c.loop-k.invariant.2)
 
 pub returns : goal.returns
-returns c = first_end_lem (judge _) _ _ _ _ (full (goal.at.returns c).Start) c.loop-k-test.false ∙ c.loop-k.invariant.2
+unfolding check5
+returns c =
+    rw (← c.jobs_of-jobs.ensures.jobs)
+    (told_at Refusal.Budget (budget_holds c.args.p.now.slots) _ (λ i e k. search rules) c.jobs_of-jobs.result.now c.position.result _
+    (position_from_yields_List (λ j. not (budget_holds c.args.p.now.slots j)) _ _ c.position.result c.position.ensures.ran (YieldsList-from_slice c.jobs_of-jobs.result.now cc) (λ x b q k. search (rules, tests)))
+    c.refused.ensures)

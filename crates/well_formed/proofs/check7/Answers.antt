@@ -1,48 +1,37 @@
--- `check7` meets its contract: the answer from a job on is the whole answer.
-use Prim.Native.Nat.{ℕ, ◌+◌, ◌-◌, ◌≤◌}
-use native.Mathlib.Omega.{arith}
-use mathlib.Core.Bool.{Bool}
-use mathlib.Core.List.{List}
-use mathlib.Core.Path.{◌≡◌, refl, ap, sym, ◌∙◌}
-use lib.ListN.{length, get_or}
+-- `check7` meets its contract: the search finds the first job whose count is not its lo.
+use Rattle.std.proofs.lemmas.Iterator.{YieldsList-from_slice, YieldsList-from_zip}
+use Rattle.std.proofs.lemmas.Iterator.Consumers.{YieldsList-at}
+use Rattle.std.proofs.lemmas.Iterator.Search.{position_from_yields_List}
+use Rattle.std.specs.Prelude.{ℕ, suc, ◌+◌, ◌-◌, ◌≤◌, ◌≡◌, refl, not, Err, List, [], ◌∷◌, length, drop, get_or}
+use Rattle.std.specs.List.{zip}
+use Rattle.std.proofs.Common.{arith, ◌∙◌, drop-cons}
 use borrow.Author.Rules.{rules}
-use borrow.Author.Tests.{eq-eqb, ne_eqb}
+use borrow.Author.Tests.{tests}
 use Rattle.words.specs.Words.{◌=?◌}
-use Rattle.words.specs.ListLaws.{long}
-use Rattle.answers.specs.Answer.{Answer, TableCount, accepted}
-use Rattle.answers.specs.AnswerLaws.{first_end_lem}
+use Rattle.answers.specs.declared.Refusal.{Refusal}
+use Rattle.answers.specs.Answer.{accepted, ◌unless◌, first_refusal}
 use Rattle.plan.specs.declared.Job.{Job}
 use Rattle.plan.specs.Limits.{max_jobs}
-use Rattle.plan.specs.Plan.{blank_job}
-use Rattle.answers.specs.AnswerLaws.{rule_on, rule_found}
-use Rattle.well_formed.proofs.check7.Invariants.{judge}
+use Rattle.plan.specs.Plan.{jobs_of}
+use Rattle.well_formed.specs.PlaceLaws.{told_at}
+use Rattle.well_formed.proofs.Laws.{counts_rule}
 use Rattle.well_formed.proofs.check7.Goals as goal
-use Rattle.well_formed.proofs.check7.Goals.{Start}
 
-abbrev refusal : ℕ → Job → Answer
-refusal k j = TableCount k
-
-abbrev rule : List ℕ → ℕ → Job → Bool
-rule counts k j = get_or counts (k - 1) 0 =? j.lo
-
--- the count of job k + 1 is at place k
-count : (counts : List ℕ) (k : ℕ) → get_or counts (k + 1 - 1) 0 ≡ get_or counts k 0
-count counts k = ap (λ (i : ℕ). get_or counts i 0) (omega arith)
-
-full : (c : Start) → c.args.jobs ≤ length c.args.job
-full c = let l : length c.args.job ≡ max_jobs = search (rules, long) in omega (arith, c.requires)
-
-pub returns-then-counts-i : goal.returns-then-counts-i
-unfolding accepted
-returns-then-counts-i c =
-    let l = c.loop-k-test.true in
-    rule_found refusal (rule c.args.counts) c.args.job c.args.jobs c.loop-k.k (c.loop-k.k + 1) blank_job (full (goal.at.returns-then-counts-i c).Start) l refl (ne_eqb _ _ (λ z. c.if-counts-i.true (sym (count c.args.counts c.loop-k.k) ∙ z))) ∙ c.loop-k.invariant.2
-
-pub loop-k-preserved : goal.loop-k-preserved
-loop-k-preserved c =
-    let l = c.loop-k-test.true in
-    (search rules, c.loop-k.invariant.1, rule_on refusal (rule c.args.counts) c.args.job c.args.jobs c.loop-k.k (c.loop-k.k + 1) blank_job (full (goal.at.loop-k-preserved c).Start) l (eq-eqb _ _ (count c.args.counts c.loop-k.k ∙ c.if-counts-i.false)) ∙ c.loop-k.invariant.2)
+-- each job beside its count is each job with the count at its place
+beside : (counts : List ℕ) (i : ℕ) (jobs : List Job) → i + length jobs ≤ length counts
+    → first_refusal (λ k (x : Job × ℕ). Err (Refusal.TableCount k) unless (x.1 =? x.0.lo)) (suc i) (zip jobs (drop i counts)) ≡ first_refusal (λ k (j : Job). Err (Refusal.TableCount k) unless (get_or counts (k - 1) 0 =? j.lo)) (suc i) jobs
+unfolding first_refusal accepted
+beside counts i [] l = refl
+beside counts i (j ∷ jobs) l =
+    let place : suc i - 1 ≡ i = omega arith in
+    rw (drop-cons counts i 0 (omega arith), beside counts (suc i) jobs (omega arith), place)
 
 pub returns : goal.returns
-returns c =
-    first_end_lem (judge c.args.counts) c.args.job c.args.jobs c.loop-k.k (c.loop-k.k + 1) (full (goal.at.returns c).Start) c.loop-k-test.false ∙ c.loop-k.invariant.2
+returns c e =
+    let jobs : c.jobs_of-jobs.result.now ≡ jobs_of c.args.p.now = c.jobs_of-jobs.ensures.jobs in
+    let few : length (jobs_of c.args.p.now) ≤ max_jobs = rw jobs at c.jobs_of-jobs.ensures.few in
+    told_at Refusal.TableCount (λ (x : Job × ℕ). x.1 =? x.0.lo) _ (λ i e k. search rules) (zip (jobs_of c.args.p.now) c.args.counts) c.position.result _
+    (position_from_yields_List (λ (x : Job × ℕ). not (x.1 =? x.0.lo)) c.position.new.self _ c.position.result c.position.ensures.ran (YieldsList-from_zip (YieldsList-at c.zip.ensures.first (YieldsList-from_slice (jobs_of c.args.p.now) cc)) (YieldsList-at c.zip.ensures.second (YieldsList-from_slice c.args.counts cc))) (λ x b q k. search (rules, tests)))
+    c.refused.ensures
+    ∙ beside c.args.counts 0 (jobs_of c.args.p.now) (let l : length c.args.counts ≡ 32 = search rules in omega arith)
+    ∙ counts_rule c.args.p.now c.args.counts e few

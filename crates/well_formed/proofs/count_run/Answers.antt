@@ -5,8 +5,8 @@ use Rattle.well_formed.proofs.count_run.Goals as goal
 
 pub returns-then-k-before : goal.returns-then-k-before
 unfolding runs_with
-returns-then-k-before c = rw (eq-eqb _ _ c.if-k-before.true)
+returns-then-k-before c = rw (ne_eqb _ _ c.if-k-before.true) c.count_slot.ensures
 
-pub returns : goal.returns
+pub returns-else-k-before : goal.returns-else-k-before
 unfolding runs_with
-returns c = rw (ne_eqb _ _ c.if-k-before.false) c.count_slot.ensures
+returns-else-k-before c = rw (eq-eqb _ _ c.if-k-before.false)

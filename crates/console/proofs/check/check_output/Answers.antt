@@ -5,13 +5,19 @@ use Rattle.console.specs.Pieces.{piece_is}
 use Rattle.console.specs.Lists.{check_no_room, check_written_lem, check_refused, check_analysed}
 use Rattle.console.proofs.check.check_output.Goals as goal
 
-pub returns-then-out-lt-CHECK_ROOM : goal.returns-then-out-lt-CHECK_ROOM
-returns-then-out-lt-CHECK_ROOM c = let both = check_no_room _ _ c.if-out-lt-CHECK_ROOM.true in record { value = both.0; out_after = both.1.0; counts_in = both.1.1 }
+pub returns-in_default : goal.returns-in_default
+returns-in_default c =
+    let all = check_no_room _ _ c.in_default.ensures.cases in
+    record { value = all.0; out_after = all.1.0; counts_in = all.1.1 }
 
 pub returns-then-not-is_accepted : goal.returns-then-not-is_accepted
-returns-then-not-is_accepted c = let both =
-    check_written_lem _ _ _ _ _ c.if-out-lt-CHECK_ROOM.false (omega arith) (piece_is (check_refused _ _ c.read_plan-read.ensures (sym c.is_accepted.ensures ∙ c.if-not-is_accepted.true)) c.put_refused_line.ensures) in record { value = both.0; out_after = both.1.0; counts_in = both.1.1 }
+returns-then-not-is_accepted c =
+    let line = piece_is (check_refused _ _ c.read_plan-read.ensures (sym c.is_accepted.ensures ∙ c.if-not-is_accepted.true)) c.put_refused_line.ensures in
+    let all = check_written_lem _ _ _ c.in-Some.ensures.cases _ _ _ (omega arith) line in
+    record { value = all.0; out_after = all.1.0; counts_in = all.1.1 }
 
 pub returns : goal.returns
-returns c = let both =
-    check_written_lem _ _ _ _ _ c.if-out-lt-CHECK_ROOM.false (omega arith) (piece_is (check_analysed _ _ c.read_plan-read.ensures (sym c.is_accepted.ensures ∙ c.if-not-is_accepted.false) _ c.analysis_of-analysis.ensures) c.put_analysis.ensures) in record { value = both.0; out_after = both.1.0; counts_in = both.1.1 }
+returns c =
+    let lines = piece_is (check_analysed _ _ c.read_plan-read.ensures (sym c.is_accepted.ensures ∙ c.if-not-is_accepted.false) _ c.analysis_of.ensures) c.put_analysis.ensures in
+    let all = check_written_lem _ _ _ c.in-Some.ensures.cases _ _ _ (omega arith) lines in
+    record { value = all.0; out_after = all.1.0; counts_in = all.1.1 }

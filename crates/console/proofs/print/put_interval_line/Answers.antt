@@ -15,7 +15,7 @@ pub returns : goal.returns
 returns c =
     let hi = piece_is (closed_same _ (to_z-of_z {w = w32} c.ranges.hi)) c.put_spare-second.ensures in
     let lo = piece_is (closed_same _ (to_z-of_z {w = w32} c.ranges.lo)) c.put_spare.ensures in
-    let two = piece_then c.put_key-start.ensures c.put_value-end.ensures (omega arith) in
-    let three = piece_then two c.put_value-first.ensures (omega arith) in
+    let two = piece_then c.put_key-start.ensures (rw c.from.ensures at c.put_value-end.ensures) (omega arith) in
+    let three = piece_then two (rw c.from-2.ensures at c.put_value-first.ensures) (omega arith) in
     let whole = piece_then (piece_then three hi (omega arith)) lo (omega arith) in
     piece_is (four_values (bytes "interval=") _ _ _ _) (piece_within whole (omega arith))

@@ -13,7 +13,7 @@ use Rattle.console.proofs.print.put_job_line.Goals as goal
 
 pub returns : goal.returns
 returns c =
-    let letter = piece_is (ap (λ (w : List ℕ). w ++ 44 ∷ []) c.standing_letter-letter.ensures) c.put_letter-third.ensures in
+    let letter = piece_is (ap (λ (w : List ℕ). w ++ 44 ∷ []) c.standing_letter.ensures) c.put_letter-third.ensures in
     let two = piece_then c.put_key-start.ensures c.put_value-second.ensures (omega arith) in
-    let whole = piece_then (piece_then two letter (omega arith)) c.put_value.ensures (omega arith) in
+    let whole = piece_then (piece_then two letter (omega arith)) (rw c.from.ensures at c.put_value.ensures) (omega arith) in
     piece_is (three_values (bytes "job=") _ _ _) (piece_within whole (omega arith))

@@ -12,4 +12,4 @@ returns-then-not-is_accepted c =
 pub returns : goal.returns
 returns c =
     let taken = sym c.is_accepted.ensures ∙ c.if-not-is_accepted.false in
-    told_is (step_taken c.args.c c.args.used _ _ c.step-after.ensures taken _ c.line_after.ensures) (told_line _ _ (omega arith) (piece_is (step_line_lem _ _ _ c.step-after.ensures taken) c.put_step-printed.ensures) refl refl refl)
+    told_is (step_taken c.args.c c.args.used _ _ c.step-after.ensures taken _ c.line_after.ensures) (told_line _ _ (omega arith) (piece_is (step_line_lem _ _ _ c.step-after.ensures taken) c.put_step_line-printed.ensures) refl refl refl)

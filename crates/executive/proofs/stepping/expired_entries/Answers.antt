@@ -1,5 +1,5 @@
 -- `expired_entries` meets its contract. The invariant: the entries of the jobs passed have met the border, the others are as they were.
-use Rattle.std.proofs.Common.{rules, arith, ◌≡◌, ◌<◌, ◌∙◌, refl, ap, length, take_all}
+use Rattle.std.proofs.Common.{rules, arith, ◌≡◌, ◌<◌, refl, length}
 use Rattle.words.specs.ListLaws.{long}
 use Rattle.plan.specs.Limits.{max_jobs}
 use Rattle.executive.specs.Step.{expired_entries}

@@ -11,9 +11,9 @@ use Rattle.plan_text.proofs.writer.put_plan.Given as goal
 abbrev pub invariant-loop-job : goal.invariant-loop-job
 invariant-loop-job l =
     let text = heads l.p ++ flat_map job_text (take l.job-index (jobs_of l.p)) in
-    record { place : l.at ≡ place_after 0 text l.fn.out; written : l.out ≡ put_fit 0 text l.fn.out }
+    record { place : l.sheet.at ≡ place_after 0 text l.fn.out; written : l.sheet.out.now ≡ put_fit 0 text l.fn.out; same_output : l.sheet.out.ghost_name ≡ l.initial.sheet.out.ghost_name }
 
 abbrev pub invariant-loop-name : goal.invariant-loop-name
 invariant-loop-name l =
     let text = heads l.p ++ flat_map job_text (jobs_of l.p) ++ flat_map (number_line "slot=") (take l.name-index (slots_of l.p)) in
-    record { place : l.at ≡ place_after 0 text l.fn.out; written : l.out ≡ put_fit 0 text l.fn.out }
+    record { place : l.sheet.at ≡ place_after 0 text l.fn.out; written : l.sheet.out.now ≡ put_fit 0 text l.fn.out; same_output : l.sheet.out.ghost_name ≡ l.initial.sheet.out.ghost_name }

@@ -1,0 +1,29 @@
+-- `chosen_t` meets its contract: the table's job if it is live, otherwise the walk over the ready set.
+use Rattle.std.proofs.Common.{rules, arith}
+use Rattle.words.specs.ListLaws.{long}
+use Rattle.executive.specs.Sound.{Sound}
+use Rattle.executive.specs.MemberLaws.{Full}
+use Rattle.executive.specs.CoherentLaws.{sound}
+use Rattle.executive.specs.ChoiceLaws.{table_slot, other_slot}
+use Rattle.executive.proofs.going.Going.chosen_t.Goals as goal
+use Rattle.executive.proofs.going.Going.chosen_t.Goals.{Start}
+
+sound-run : (c : Start) → Sound c.args.self.run
+sound-run c = sound _ c.args.self.coherent c.args.self.before (search (rules, long)) (search rules) (search (rules, long))
+
+full : (c : Start) → Full c.args.self.run
+full c = record { few = (sound-run c).few; jobs = search (rules, long); entries = search (rules, long) }
+
+pub bounds-r-from : goal.bounds-r-from
+bounds-r-from c = omega (arith, (sound-run (goal.at.bounds-r-from c).Start).border)
+
+pub bounds-r-index : goal.bounds-r-index
+bounds-r-index c = let s = sound-run (goal.at.bounds-r-index c).Start in omega (arith, rw (c.from.ensures) at c.index.ensures.0, s.named)
+
+pub returns-then-has_slot : goal.returns-then-has_slot
+returns-then-has_slot c =
+    table_slot c.args.self.run _ _ _ c.from.ensures c.index.ensures.0 c.has_slot.ensures c.if-has_slot.true
+
+pub returns : goal.returns
+returns c =
+    other_slot c.args.self.run _ _ _ c.from.ensures c.index.ensures.0 c.has_slot.ensures c.if-has_slot.false _ _ (full (goal.at.returns c).Start) c.args.self.ready_now c.earliest.ensures
