@@ -12,7 +12,7 @@ use Rattle.lines.specs.ReadingLaws.{number_long, same_length}
 use Rattle.lines.specs.DecidedLaws.{Decided, field_decided}
 use Rattle.plan.specs.declared.Plan.{Plan}
 use Rattle.plan.specs.Limits.{max_slots, max_jobs, one_to}
-use Rattle.plan_text.specs.PrefixLaws.{keeps_limit}
+use Rattle.plan_text.specs.DecidedLaws.{limited}
 use Rattle.plan_text.specs.Read.{level_in, next_job, next_plan, start_of}
 use Rattle.entries.specs.declared.Kind.{Kind}
 use Rattle.console.specs.Run.{kind_in, before_comma, report, report_in}
@@ -74,8 +74,8 @@ plan_lines =
     (λ slots. within_lines 673 (SlotLimit unless one_to max_slots slots) _
     (λ N. then_lines 1 672 _ _ (field_lines number "jobs=")
     (λ jobs. within_lines 672 (JobLimit unless one_to max_jobs jobs) _
-    (λ n. then_lines 160 512 _ _ (more_lines (jobs * 5) 160 _ (omega (arith, keeps_limit max_jobs jobs JobLimit _ refl refl n)) (many_lines 5 jobs next_job job_lines_lem))
-    (λ job. then_lines 512 0 _ _ (more_lines (slots * 1) 512 _ (omega (arith, keeps_limit max_slots slots SlotLimit _ refl refl N)) (many_lines 1 slots _ (field_lines number "slot=")))
+    (λ n. then_lines 160 512 _ _ (more_lines (jobs * 5) 160 _ (omega (arith, limited JobLimit max_jobs jobs refl n)) (many_lines 5 jobs next_job job_lines_lem))
+    (λ job. then_lines 512 0 _ _ (more_lines (slots * 1) 512 _ (omega (arith, limited SlotLimit max_slots slots refl N)) (many_lines 1 slots _ (field_lines number "slot=")))
     (λ table. give_lines _))))))
 
 -- the first line after a plan has a number of at most 675

@@ -1,8 +1,7 @@
 -- Lines one after the other: the lines of one more interval or job, and the rooms of whole outputs.
-use Rattle.std.specs.Prelude.{ℕ, zero, suc, ◌+◌, ◌*◌, ◌≤◌, ◌<◌, min, ◌≡◌, refl, List, [], ◌∷◌, ◌++◌, ℤ, pos, get_or, take, drop, if◌then◌else◌}
+use Rattle.std.specs.Prelude.{ℕ, zero, suc, ◌+◌, ◌*◌, ◌≤◌, ◌<◌, min, ◌≡◌, refl, List, [], ◌∷◌, ◌++◌, ℤ, pos, get_or, take, drop, if◌then◌else◌, Ok, Err}
 use Rattle.std.proofs.Common.{add-one, le_of_suc-le-suc, arith, sym, ap, ◌∙◌, append-nil, append_assoc, take_all, le-leb}
 use Rattle.std.specs.Array.{IsFirstChunk}
-use Rattle.std.proofs.Math.Bool.{true, false}
 use Rattle.std.proofs.Math.ListN.{length}
 use Rattle.std.proofs.lemmas.Bool.{lt-leb}
 use Rattle.words.specs.Words.{◌≤?◌}
@@ -16,6 +15,7 @@ use Rattle.intervals.specs.Layout.{blank_interval}
 use Rattle.entries.specs.declared.Entry.{Entry}
 use Rattle.executive.specs.declared.Run.{Run}
 use Rattle.entries.specs.Entry.{fresh_entry}
+use Rattle.answers.specs.declared.Refusal.{Refusal}
 use Rattle.answers.specs.Answer.{accepted}
 use Rattle.plan_text.specs.declared.PlanRead.{PlanRead}
 use Rattle.plan_text.specs.Read.{read_plan}
@@ -105,24 +105,24 @@ jobs_listed r i l e = ap (job_lines_from 1) (listed_all r.plan.jobs i 32 r.entry
 -- ---- the analysis
 
 module _ (a : Analysis) where
-  pub analysis_refused : accepted a.answer ≡ false → refused_line a.answer ≡ analysis_lines a
-  unfolding analysis_lines
-  analysis_refused h = rw h
+  pub analysis_refused : (e : Refusal) → a.answer ≡ Err e → refused_line (Err e) ≡ analysis_lines a
+  unfolding analysis_lines accepted
+  analysis_refused e h = rw h
 
-  pub analysis_accepted : accepted a.answer ≡ true → interval_lines (take a.count a.interval) a.hi a.lo ++ bytes "answer=0\n" ≡ analysis_lines a
-  unfolding analysis_lines
-  analysis_accepted h = rw (h, answer_line)
+  pub analysis_accepted : (u : Unit {0}) → a.answer ≡ Ok u → interval_lines (take a.count a.interval) a.hi a.lo ++ bytes "answer=0\n" ≡ analysis_lines a
+  unfolding analysis_lines accepted
+  analysis_accepted u h = rw (h, answer_line)
 
 -- ---- the check program
 
 module _ (text : List ℕ) (read : PlanRead) (is : read ≡ read_plan text) where
-  pub check_refused : accepted read.answer ≡ false → refused_line read.answer ≡ check_output text
-  unfolding check_output
-  check_refused h = let h' : accepted (read_plan text).answer ≡ false = rw is at h in rw (h', is)
+  pub check_refused : (e : Refusal) → read.answer ≡ Err e → refused_line (Err e) ≡ check_output text
+  unfolding check_output accepted
+  check_refused e h = let h' : (read_plan text).answer ≡ Err e = rw is at h in rw h'
 
-  pub check_analysed : accepted read.answer ≡ true → (a : Analysis) → a ≡ analysis read.plan → analysis_lines a ≡ check_output text
-  unfolding check_output
-  check_analysed h a e = let h' : accepted (read_plan text).answer ≡ true = rw is at h in rw (h', e, is)
+  pub check_analysed : (u : Unit {0}) → read.answer ≡ Ok u → (a : Analysis) → a ≡ analysis read.plan → analysis_lines a ≡ check_output text
+  unfolding check_output accepted
+  check_analysed u h a e = let h' : (read_plan text).answer ≡ Ok u = rw is at h in rw (h', e, is)
 
 module _ (text d : List ℕ) where
   pub check_no_room : length d < check_room → (0 ≡ check_length text d) × ((d ≡ check_written text d) × CountsIn 0 d)

@@ -1,14 +1,15 @@
 -- What the console's functions answer: the event, written into the lent output; the step line by the choice; and their laws.
-use Rattle.std.specs.Prelude.{ℕ, ◌+◌, ◌≤◌, ◌<◌, ◌≡◌, Bool, not, List, [], ◌++◌, drop, Option, None, Some, IfSome}
+use Rattle.std.specs.Prelude.{ℕ, ◌+◌, ◌≤◌, ◌<◌, ◌≡◌, Bool, List, [], ◌++◌, drop, Option, None, Some, IfSome, Ok, Err}
 use Rattle.std.specs.Array.{IsFirstChunk}
 use native.Mathlib.Omega.{arith}
 use Rattle.std.proofs.Math.Path.{refl, ap}
 use Rattle.std.proofs.Common.{sym, ◌∙◌}
 use Rattle.std.proofs.Math.Bool.{true, false}
 use Rattle.std.proofs.Math.ListN.{length}
-use borrow.Author.Tests.{lt-ltb, le-ltb, le-leb, lt-leb, eq-eqb, ne_eqb, not-true, not-false}
+use borrow.Author.Tests.{lt-ltb, le-ltb, le-leb, lt-leb, eq-eqb, ne_eqb}
 use Rattle.words.specs.Words.{◌≤?◌}
 use Rattle.words.specs.Cases.{by_test, never}
+use Rattle.answers.specs.declared.Refusal.{Refusal}
 use Rattle.answers.specs.Answer.{Answer, Form, accepted, first_place}
 use Rattle.lines.specs.Lines.{line_length, lines_in}
 use Rattle.lines.specs.Writing.{put}
@@ -61,47 +62,56 @@ told_is q t = rw (← q) t
 
 -- ---- the plan
 
-module _ (c : Console) (used line : ℕ) (s t : Started) (is : s ≡ t) where
-  pub started_refused : accepted s.answer ≡ false → refuses c s.answer ≡ started_event c used line t
-  started_refused h = let h' : accepted t.answer ≡ false = rw is at h in rw (h', is)
+-- an answer that is a refusal, and one that is not
+err_refused : {a : Answer} {e : Refusal} → a ≡ Err e → accepted a ≡ false
+unfolding accepted
+err_refused h = rw h
 
-  pub started_runs : accepted s.answer ≡ true
+ok_accepted : {a : Answer} {u : Unit {0}} → a ≡ Ok u → accepted a ≡ true
+unfolding accepted
+ok_accepted h = rw h
+
+module _ (c : Console) (used line : ℕ) (s t : Started) (is : s ≡ t) where
+  pub started_refused : (e : Refusal) → s.answer ≡ Err e → refuses c (Err e) ≡ started_event c used line t
+  started_refused e h = let h' : t.answer ≡ Err e = rw is at h in rw (err_refused h', h')
+
+  pub started_runs : (u : Unit {0}) → s.answer ≡ Ok u
       → record { printed = []; console = record { stage = Running; run = s.run; line = line }; used = used; waiting = false } ≡ started_event c used line t
-  started_runs h = let h' : accepted t.answer ≡ true = rw is at h in rw (h', is)
+  started_runs u h = let h' : t.answer ≡ Ok u = rw is at h in rw (ok_accepted h', is)
 
 module _ (c : Console) (s : List ℕ) (p : PlanPrefix) (is : p ≡ plan_prefix s) where
-  pub plan_begins : accepted p.answer ≡ true → started_event c p.next p.line (start p.plan) ≡ plan_event c s
+  pub plan_begins : (u : Unit {0}) → p.answer ≡ Ok u → started_event c p.next p.line (start p.plan) ≡ plan_event c s
   unfolding plan_event
-  plan_begins h = let h' : accepted (plan_prefix s).answer ≡ true = rw is at h in rw (h', is)
+  plan_begins u h = let h' : (plan_prefix s).answer ≡ Ok u = rw is at h in rw (ok_accepted h', is)
 
-  module _ (h : accepted p.answer ≡ false) where
-    h' : accepted (plan_prefix s).answer ≡ false
+  module _ (e : Refusal) (h : p.answer ≡ Err e) where
+    h' : (plan_prefix s).answer ≡ Err e
     h' = rw is at h
 
-    module _ (t : Bool) (final : t ≡ is_final s p.answer) where
-      pub plan_waits : not t ≡ true → waits c ≡ plan_event c s
+    module _ (t : Bool) (final : t ≡ is_final s (Err e)) where
+      pub plan_waits : t ≡ false → waits c ≡ plan_event c s
       unfolding plan_event
-      plan_waits l = let f : is_final s (plan_prefix s).answer ≡ false = rw is at (sym final ∙ not-true t l) in rw (h', f)
+      plan_waits l = let f : is_final s (Err e) ≡ false = sym final ∙ l in rw (err_refused h', h', f)
 
-      pub plan_refused : not t ≡ false → refuses c p.answer ≡ plan_event c s
+      pub plan_refused : t ≡ true → refuses c (Err e) ≡ plan_event c s
       unfolding plan_event
-      plan_refused l = let f : is_final s (plan_prefix s).answer ≡ true = rw is at (sym final ∙ not-false t l) in rw (h', f, is)
+      plan_refused l = let f : is_final s (Err e) ≡ true = sym final ∙ l in rw (err_refused h', h', f)
+
+module _ (s : List ℕ) (p : PlanPrefix) (is : p ≡ plan_prefix s) where
+  pub unread_refused : (e : Refusal) → p.answer ≡ Err e → refused_line (Err e) ≡ unread_output (plan_prefix s)
+  unread_refused e h = let h' : (plan_prefix s).answer ≡ Err e = rw is at h in rw (err_refused h', h')
+
+  pub unread_none : (u : Unit {0}) → p.answer ≡ Ok u → [] ≡ unread_output (plan_prefix s)
+  unread_none u h = let h' : (plan_prefix s).answer ≡ Ok u = rw is at h in rw (ok_accepted h')
 
 module _ (s : List ℕ) (x : Answer) (line : ℕ) (is : line ≡ first_place x) (t : Bool) (has : t ≡ (line ≤? lines_in s)) where
-  pub final_closed : t ≡ true → true ≡ is_final s x
+  pub final_closed : t ≡ true → t ≡ is_final s x
   unfolding is_final
   final_closed h = rw (← is, ← has, h)
 
   pub final_long : t ≡ false → (enough ≤? length s) ≡ is_final s x
   unfolding is_final
   final_long h = rw (← is, ← has, h)
-
-module _ (s : List ℕ) (p : PlanPrefix) (is : p ≡ plan_prefix s) where
-  pub unread_refused : accepted p.answer ≡ false → refused_line p.answer ≡ unread_output (plan_prefix s)
-  unread_refused h = let h' : accepted (plan_prefix s).answer ≡ false = rw is at h in rw (h', is)
-
-  pub unread_none : accepted p.answer ≡ true → [] ≡ unread_output (plan_prefix s)
-  unread_none h = let h' : accepted (plan_prefix s).answer ≡ true = rw is at h in rw h'
 
 -- ---- a report line
 
@@ -137,17 +147,18 @@ module _ (c : Console) (s : List ℕ) where
 -- ---- a step
 
 module _ (c : Console) (used : ℕ) (s t : Stepped) (is : s ≡ t) where
-  pub step_refused : accepted s.answer ≡ false → refuses c s.answer ≡ stepped_event c used t
-  step_refused h = let h' : accepted t.answer ≡ false = rw is at h in rw (h', is)
+  pub step_refused : (e : Refusal) → s.answer ≡ Err e → refuses c (Err e) ≡ stepped_event c used t
+  step_refused e h = let h' : t.answer ≡ Err e = rw is at h in rw (err_refused h', h')
 
-  pub step_taken : accepted s.answer ≡ true → (line : ℕ) → line ≡ line_after c.line
+  pub step_taken : (u : Unit {0}) → s.answer ≡ Ok u → (line : ℕ) → line ≡ line_after c.line
       → record { printed = step_line c.run; console = record { stage = Running; run = s.run; line = line }; used = used; waiting = false } ≡ stepped_event c used t
-  step_taken h line e = let h' : accepted t.answer ≡ true = rw is at h in rw (h', is, e)
+  step_taken u h line e = let h' : t.answer ≡ Ok u = rw is at h in rw (ok_accepted h', is, e)
 
 -- the step line, from the choice that the step handed back
-pub step_line_lem : (r : Run) (report : Report) (s : Stepped) → s ≡ step r report → accepted s.answer ≡ true → step_line_from r s.choice ≡ step_line r
+pub step_line_lem : (r : Run) (report : Report) (s : Stepped) → s ≡ step r report → (u : Unit {0}) → s.answer ≡ Ok u → step_line_from r s.choice ≡ step_line r
 unfolding step_line step made_choice
-step_line_lem r report s is h =
+step_line_lem r report s is u ok =
+    let h : accepted s.answer ≡ true = ok_accepted ok in
     by_test (accepted (report_answer r report))
     (λ g. let c : s.choice ≡ made_choice r = ap (λ (x : Stepped). x.choice) is ∙ rw g in rw c)
     (λ g. let f : accepted s.answer ≡ false = ap (λ (x : Stepped). accepted x.answer) is ∙ rw g g in absurd (never h f))

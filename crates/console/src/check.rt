@@ -27,11 +27,13 @@ fn put_interval_lines(out: &mut [u8; CHECK_ROOM], a: Analysis) -> usize
 fn put_analysis(out: &mut [u8; CHECK_ROOM], a: Analysis) -> usize
     ensures { Piece check_room 0 (analysis_lines a) out.old result out.new }
 {
-    if let Err(refusal) = a.answer {
-        return put_refused_line(out, 0, refusal);
+    match a.answer {
+        Err(refusal) => put_refused_line(out, 0, refusal),
+        Ok(()) => {
+            let end = put_interval_lines(out, a);
+            put_key(out, end, b"answer=0\n")
+        }
     }
-    let end = put_interval_lines(out, a);
-    put_key(out, end, b"answer=0\n")
 }
 
 // All that the check program prints for this text, at the start of the output. An output with less than CHECK_ROOM is left as it is.
@@ -44,8 +46,8 @@ pub fn check_output(text: &[u8], out: &mut [u8]) -> usize
         return 0;
     };
     let read = plan_text::reader::read_plan(text);
-    if let Err(refusal) = read.answer {
-        return put_refused_line(out, 0, refusal);
+    match read.answer {
+        Err(refusal) => put_refused_line(out, 0, refusal),
+        Ok(()) => put_analysis(out, acceptance::analysis_of(read.plan)),
     }
-    put_analysis(out, acceptance::analysis_of(read.plan))
 }

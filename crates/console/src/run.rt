@@ -80,17 +80,17 @@ fn begun(c: Console, plan: Plan, used: usize, line: u16, out: &mut [u8; RUN_ROOM
     ensures { Told (started_event c used line (start plan)) out.old (Some result) out.new }
 {
     let started = executive::start(plan);
-    if let Err(refusal) = started.answer {
-        return refused(c, refusal, out);
-    }
-    Turn {
-        console: Console {
-            stage: Stage::Running,
-            run: started.run,
-            line,
+    match started.answer {
+        Err(refusal) => refused(c, refusal, out),
+        Ok(()) => Turn {
+            console: Console {
+                stage: Stage::Running,
+                run: started.run,
+                line,
+            },
+            used,
+            printed: 0,
         },
-        used,
-        printed: 0,
     }
 }
 
@@ -132,18 +132,17 @@ fn stepped(c: Console, report: Report, used: usize, out: &mut [u8; RUN_ROOM]) ->
     ensures { Told (stepped_event c used (step c.run report)) out.old (Some result) out.new }
 {
     let after = c.run.step(report);
-    if let Err(refusal) = after.answer {
-        return refused(c, refusal, out);
-    }
-    let printed = put_step_line(out, 0, &c.run, &after.choice);
-    Turn {
-        console: Console {
-            stage: Stage::Running,
-            run: after.run,
-            line: line_after(c.line),
+    match after.answer {
+        Err(refusal) => refused(c, refusal, out),
+        Ok(()) => Turn {
+            console: Console {
+                stage: Stage::Running,
+                run: after.run,
+                line: line_after(c.line),
+            },
+            used,
+            printed: put_step_line(out, 0, &c.run, &after.choice),
         },
-        used,
-        printed,
     }
 }
 
@@ -154,10 +153,10 @@ fn take_line(c: Console, text: &[u8], out: &mut [u8; RUN_ROOM]) -> Option<Turn>
     if !line_ready(text) {
         return None;
     }
-    let Some((report, used)) = report_field(text) else {
-        return Some(refused(c, Refusal::Form(c.line), out));
-    };
-    Some(stepped(c, report, used, out))
+    match report_field(text) {
+        None => Some(refused(c, Refusal::Form(c.line), out)),
+        Some((report, used)) => Some(stepped(c, report, used, out)),
+    }
 }
 
 // A line for each job, in order.

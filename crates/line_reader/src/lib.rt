@@ -1,5 +1,5 @@
-// The line reader: it holds the caller's text and its place, and goes from line to line. Each function over it takes it apart and leaves
-// the work to one on slice and number.
+// The line reader: it holds the caller's text and its place, and goes from line to line. Each function over it leaves the work to one
+// on slice and number.
 // What a line means is in lines and above.
 #![tactic(auto)]
 
@@ -9,6 +9,7 @@ ghost use Rattle.lines.specs.Reading.{value_at, field_at};
 
 use lines::reading::{ValueAt, first_lf, key_at, read_number};
 
+// A reader of the caller's text at a place in it.
 #[derive(Clone, Copy)]
 pub struct LineReader<'a> {
     pub text: &'a [u8],
@@ -33,56 +34,58 @@ fn value_at(text: &[u8], at: usize, key: &[u8]) -> Option<ValueAt>
 }
 
 // A reader at a place of the caller's text.
-pub fn reader_at<'a>(text: &'a [u8], at: usize) -> LineReader<'a>
+pub fn reader_at(text: &[u8], at: usize) -> LineReader<'_>
     ensures { (result.text ≡ text.entry) × (result.at ≡ at) }
 {
     LineReader { text, at }
 }
 
-// The reader's place.
-pub fn place<'a>(r: LineReader<'a>) -> usize
-    ensures { result ≡ r.entry.at }
-{
-    r.at
-}
+impl<'a> LineReader<'a> {
+    // The reader's place.
+    pub fn place(self) -> usize
+        ensures { result ≡ self.entry.at }
+    {
+        self.at
+    }
 
-// The line at the reader's place: where its value stands, or refused where it is missing, is not closed or has another key.
-pub fn look<'a, 'b>(r: LineReader<'a>, key: &'b [u8]) -> Option<ValueAt>
-    ensures { result ≡ value_at r.entry.text.now r.entry.at key.now }
-{
-    value_at(r.text, r.at, key)
-}
+    // The line at the reader's place: where its value stands, or nothing where it is missing, is not closed or has another key.
+    pub fn look(self, key: &[u8]) -> Option<ValueAt>
+        ensures { result ≡ value_at self.entry.text.now self.entry.at key.now }
+    {
+        value_at(self.text, self.at, key)
+    }
 
-// The reader of the same text at another place, as past a line.
-pub fn moved<'a>(r: LineReader<'a>, at: usize) -> LineReader<'a>
-    ensures { (result.text ≡ r.entry.text) × (result.at ≡ at) }
-{
-    LineReader { text: r.text, at }
-}
+    // The reader of the same text at another place, as past a line.
+    pub fn moved(self, at: usize) -> LineReader<'a>
+        ensures { (result.text ≡ self.entry.text) × (result.at ≡ at) }
+    {
+        LineReader { at, ..self }
+    }
 
-// A part of the text that the reader holds, as the value of a line.
-pub fn part<'a>(r: LineReader<'a>, start: usize, len: usize) -> &'a [u8]
-    ensures { result.now ≡ take len (drop start r.entry.text.now) }
-{
-    lines::reading::value(r.text, start, len)
+    // A part of the text that the reader holds, as the value of a line.
+    pub fn part(self, start: usize, len: usize) -> &'a [u8]
+        ensures { result.now ≡ take len (drop start self.entry.text.now) }
+    {
+        lines::reading::value(self.text, start, len)
+    }
 }
 
 // One line walked: a reader at `at` looks at its line, moves past the LF, and its place is where the next line starts.
-// Refused where the line is missing, is not closed or has another key.
-pub fn find_value<'a, 'b>(text: &'a [u8], at: usize, key: &'b [u8]) -> Option<ValueAt>
+// Nothing where the line is missing, is not closed or has another key.
+pub fn find_value(text: &[u8], at: usize, key: &[u8]) -> Option<ValueAt>
     ensures { result ≡ value_at text.now at key.now }
 {
-    let here = reader_at(text, at);
-    let seen = look(here, key)?;
-    let next = place(moved(here, seen.next));
+    let reader = reader_at(text, at);
+    let seen = reader.look(key)?;
+    let next = reader.moved(seen.next).place();
     Some(ValueAt { next, ..seen })
 }
 
 // A part of the caller's text, by way of the reader at its start.
-pub fn part_from<'a>(text: &'a [u8], start: usize, len: usize) -> &'a [u8]
+pub fn part_from(text: &[u8], start: usize, len: usize) -> &[u8]
     ensures { result.now ≡ take len (drop start text.now) }
 {
-    part(reader_at(text, start), start, len)
+    reader_at(text, start).part(start, len)
 }
 
 // The number on the line at `at`, which has the key.

@@ -6,7 +6,7 @@ ghost use Rattle.std.specs.Prelude.{◌≡◌, map, take, length, ◌≤◌, ◌
 ghost use Rattle.words.specs.Words.{every};
 ghost use Rattle.answers.specs.Answer.{SlotLimit, JobLimit, ◌unless◌};
 ghost use Rattle.plan.specs.Limits.{max_slots, max_jobs, one_to};
-ghost use Rattle.plan.specs.Plan.{blank_job, blank_plan, jobs_of, is_hi, counts_at};
+ghost use Rattle.plan.specs.Plan.{blank_job, blank_plan, is_hi, counts_at};
 ghost use Rattle.plan.specs.Rules.{window_holds, budget_holds, windows_hold};
 ghost use Rattle.plan.specs.Counts.{counted_with};
 
@@ -149,7 +149,9 @@ fn every_window(jobs: &[Job], slots: u16) -> bool
 pub fn windows_hold(p: Plan) -> bool
     ensures { result ≡ windows_hold p }
 {
-    one_to(SLOTS, p.slots) && one_to(JOBS, p.jobs) && every_window(jobs_of(&p), p.slots)
+    one_to(SLOTS, p.slots)
+        && one_to(JOBS, p.jobs)
+        && every_window(first_jobs(&p.job, p.jobs), p.slots)
 }
 
 // The counts with one more for job k.

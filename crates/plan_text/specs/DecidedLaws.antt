@@ -45,7 +45,7 @@ within {A} b answer rest d = by_test (accepted answer) passes stops
       closes = λ l s u x le e. rw h (rw h at e);
     }
 
-limited : (refusal : Answer) (limit n : ℕ) → accepted refusal ≡ false → accepted (refusal unless one_to limit n) ≡ true → n ≤ limit
+pub limited : (refusal : Answer) (limit n : ℕ) → accepted refusal ≡ false → accepted (refusal unless one_to limit n) ≡ true → n ≤ limit
 limited refusal limit n refuses h =
     by_test (one_to limit n)
     (λ e. leb-true n limit (both_hold (1 ≤? n) (n ≤? limit) e).1)

@@ -1,7 +1,11 @@
--- Which of the system's error numbers pass: EINTR is 4 and EAGAIN is 11, and no other.
-use Rattle.std.specs.Prelude.{ℕ, ◌≡◌, refl, Bool, true, false, not, ◌&&◌, ◌||◌, suc, List, [], ◌∷◌, pos, negsuc, int_lt, if◌then◌else◌}
-use Rattle.std.proofs.Common.{arith, eq-eqb, ne_eqb, ap, sym, ◌∙◌}
+-- Laws of reading and writing: bytes that come one part after the other, and go out so; which of the system's error numbers pass.
+use Rattle.std.specs.Prelude.{ℕ, ◌+◌, ◌-◌, ◌≡◌, ◌++◌, length, take, drop, Option, refl, Bool, true, false, not, ◌&&◌, ◌||◌, suc, List, [], ◌∷◌, pos, negsuc, int_lt, if◌then◌else◌}
+use Rattle.std.proofs.Common.{arith, eq-eqb, ne_eqb, ap, sym, subst, ◌∙◌}
 use Rattle.std.proofs.lemmas.Bool.{false≢true, lt-leb}
+use Rattle.std.proofs.Math.Seq.{take-add}
+use Rattle.std.proofs.lemmas.List.{take_rest}
+use Rattle.std.proofs.KnownBytes.{Consumes-trans, Appends-trans}
+use Rattle.std.specs.Io.KnownBytes.{Consumes, Appends}
 use Rattle.std.specs.IoError.{os_error_kind, os_error_kinds, kind_in}
 use Rattle.std.specs.declared.io.ErrorKind.{ErrorKind}
 use Rattle.std.specs.declared.io.ErrorKind.TheVariants.{Uncategorized}
@@ -9,7 +13,19 @@ use Rattle.words.specs.Words.{◌=?◌}
 use Rattle.words.specs.Cases.{by_equal, by_test, both_hold}
 use Rattle.streams.specs.Streams.{passes}
 
--- ---- a table of numbers and kinds
+-- ---- one part after the other
+
+module _ (a b c : Option (List ℕ)) (n more : ℕ) where
+  pub came_on : (held after : List ℕ) → Consumes a b (take n held) → take n after ≡ take n held → Consumes b c (take more (drop n after)) → Consumes a c (take (n + more) after)
+  came_on held after p stays q = subst (Consumes a c) (sym (take-add n more after ∙ ap (λ (l : List ℕ). l ++ take more (drop n after)) stays)) (Consumes-trans a b c (take n held) (take more (drop n after)) p q)
+
+  -- the part from n on, as it is lent; m have gone out then
+  pub gone_on : (text : List ℕ) (m : ℕ) → m ≡ n + more → Appends a b (take n text) → Appends b c (take more (take (length text - n) (drop n text))) → Appends a c (take m text)
+  gone_on text m e p q =
+      let all : take m text ≡ take n text ++ take more (take (length text - n) (drop n text)) = rw (e, take_rest text n) (take-add n more text) in
+      subst (Appends a c) (sym all) (Appends-trans a b c (take n text) (take more (take (length text - n) (drop n text))) p q)
+
+-- ---- a table of numbers and kinds: EINTR is 4 and EAGAIN is 11
 
 abbrev stays_broken : ℕ × ErrorKind → Bool
 stays_broken row = not (passes row.1) || (row.0 =? 4) || (row.0 =? 11)

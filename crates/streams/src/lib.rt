@@ -3,7 +3,8 @@
 // Any other failure is said in one line on standard error. What the bytes mean is not here.
 #![tactic(auto)]
 
-ghost use Rattle.std.specs.Prelude.{◌≤◌, ◌≡◌, length, is_ok, IsErr};
+ghost use Rattle.std.specs.Prelude.{◌≤◌, ◌<◌, ◌≡◌, length, take, drop, is_ok, IsErr, IfOk};
+ghost use Rattle.std.specs.Io.KnownBytes.{ReadConsumes, Consumes, IsAtEnd, Appends};
 ghost use Rattle.std.specs.IoError.{error_kind};
 ghost use Rattle.streams.specs.Streams.{ReadAfter, passes};
 
@@ -53,6 +54,7 @@ pub fn read_after<R: Read>(
     n: usize,
 ) -> io::Result<usize>
     ensures read { ReadAfter n held.old result held.new }
+    ensures bytes { ReadConsumes (R.remaining input.old) (R.remaining input.new) result (drop n held.new) }
     ensures no_room { length held.old ≤ n → IsErr result }
 {
     if held.len() <= n {
@@ -68,8 +70,11 @@ pub fn read_after<R: Read>(
 }
 
 // Input from the start of `held` on, until it is full or the input ends: how many bytes came.
+#[tactic(auto, using(crate::specs::StreamsLaws::came_on))]
 pub fn read_full<R: Read>(rt: &impl Eprint, input: &mut R, held: &mut [u8]) -> io::Result<usize>
-    ensures { ReadAfter 0 held.old result held.new }
+    ensures read { ReadAfter 0 held.old result held.new }
+    ensures bytes { IfOk result (λ n. Consumes (R.remaining input.old) (R.remaining input.new) (take n held.new)) }
+    ensures end { IfOk result (λ n. n < length held.new → IsAtEnd (R.remaining input.new)) }
 {
     let mut n = 0;
     while n < held.len() {
@@ -83,7 +88,8 @@ pub fn read_full<R: Read>(rt: &impl Eprint, input: &mut R, held: &mut [u8]) -> i
 
 // Writes the text, each part after the one before: how many bytes were taken, all of them unless a write failed.
 pub fn write_out<W: Write>(rt: &impl Eprint, output: &mut W, text: &[u8]) -> usize
-    ensures { result ≤ length text.now }
+    ensures count { result ≤ length text.now }
+    ensures bytes { Appends (W.contents output.old) (W.contents output.new) (take result text.now) }
 {
     let mut done = 0;
     for _ in 0..TRIES {
