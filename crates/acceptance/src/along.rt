@@ -44,7 +44,7 @@ impl Laid {
         ensures refused { IfErr result (λ e. well_formed p ≡ Err e) }
     {
         well_formed::well_formed(p)?;
-        let layout = intervals::layout_of(p);
+        let layout = intervals::layout_of(&p);
         Ok(Laid { plan: p, layout })
     }
 
@@ -107,8 +107,8 @@ impl<'a> Border<'a> {
         ensures { result ≡ overdrawn self.entry.of.now.plan self.entry.t }
     {
         let work = work_along(&self.of.plan.job, &self.counts);
-        let sums = spares::debt::work_by_home(self.of.layout.home, work);
-        spares::debt::in_debt(self.of.layout, self.t, &sums)
+        let sums = spares::debt::work_by_home(&self.of.layout.home, &work);
+        spares::debt::in_debt(&self.of.layout, self.t, &sums)
     }
 
     // The slot at this border is the last of a HI job.

@@ -6,7 +6,7 @@ ghost use Rattle.entries.specs.Entry.{live};
 use crate::going::Going;
 use crate::{Choice, Phase};
 use entries::{Entry, is_live};
-use ready::{Slot, earliest, index, ready_set};
+use ready::{Slot, earliest, index, ready_hi_set};
 use spares::Spare;
 
 // The table's job k has its slot when it is live.
@@ -35,7 +35,7 @@ impl Going {
         if has_slot(k, r.entry[index(k)]) {
             return Slot::Job(k);
         }
-        earliest(r.plan.job, self.ready)
+        earliest(&r.plan.job, self.ready)
     }
 
     // Phase H.
@@ -44,10 +44,10 @@ impl Going {
     {
         let r = &self.run;
         if open_to_all(self.hi, self.lo) {
-            return earliest(r.plan.job, self.ready);
+            return earliest(&r.plan.job, self.ready);
         }
-        let ready_hi = ready_set(true, r.t, r.plan.job, r.entry, r.plan.jobs);
-        earliest(r.plan.job, ready_hi)
+        let ready_hi = ready_hi_set(r.t, &r.plan.job, &r.entry, r.plan.jobs);
+        earliest(&r.plan.job, ready_hi)
     }
 
     fn chosen(self) -> Slot

@@ -27,10 +27,10 @@ impl Run {
         ensures { result ≡ refreshed self }
     {
         let Rows { hi, lo } = spares::rows_of(
-            layout,
+            &layout,
             self.t,
-            self.plan.job,
-            self.entry,
+            &self.plan.job,
+            &self.entry,
             self.plan.jobs,
         );
         Run { hi, lo, ..self }
@@ -47,12 +47,12 @@ impl Run {
         if !entries_hold(self.t, self.jobs(), &self.entry) {
             return None;
         }
-        let layout = intervals::layout_of(self.plan);
+        let layout = intervals::layout_of(&self.plan);
         let fresh = self.refreshed(layout);
-        if !spares::same_row(self.hi, fresh.hi) {
+        if !spares::same_row(&self.hi, &fresh.hi) {
             return None;
         }
-        if !spares::same_row(self.lo, fresh.lo) {
+        if !spares::same_row(&self.lo, &fresh.lo) {
             return None;
         }
         Some(layout)

@@ -44,9 +44,9 @@ impl Run {
         Ok(Going {
             run: self,
             layout,
-            hi: spares::current(layout, self.t, self.hi),
-            lo: spares::current(layout, self.t, self.lo),
-            ready: ready_set(false, self.t, self.plan.job, self.entry, self.plan.jobs),
+            hi: spares::current(&layout, self.t, &self.hi),
+            lo: spares::current(&layout, self.t, &self.lo),
+            ready: ready_set(self.t, &self.plan.job, &self.entry, self.plan.jobs),
         })
     }
 }

@@ -1,11 +1,10 @@
 -- A layout is built deadline by deadline: what is laid out and what is still to come are all the intervals, and with the jobs at home it is the plan's layout.
-use Rattle.std.specs.Prelude.{ℕ, ◌+◌, ◌-◌, ◌≤◌, ◌<◌, max, min, ◌≡◌, List, [], ◌∷◌, ◌++◌, map, length, take, get_or, set, replicate}
+use Rattle.std.specs.Prelude.{ℕ, ◌+◌, ◌-◌, ◌≤◌, ◌<◌, max, ◌≡◌, List, [], ◌∷◌, ◌++◌, map, length, get_or, set, replicate}
 use Rattle.std.proofs.Common.{ap, ◌∙◌, append_assoc, append-nil, arith, length-append, lt-ltb, le-ltb}
 use Rattle.std.proofs.lemmas.List.{length-map}
 use Rattle.words.specs.Words.{filled}
 use Rattle.words.specs.Cases.{by_test}
 use Rattle.words.specs.FilledLaws.{filled_so_far, filled_more}
-use Rattle.words.specs.PartLaws.{take_min}
 use Rattle.plan.specs.declared.Job.{Job}
 use Rattle.plan.specs.declared.Plan.{Plan}
 use Rattle.plan.specs.Limits.{max_jobs}
@@ -114,10 +113,8 @@ homes_are p place table =
     homes_in_time (jobs_of p) (intervals p) place table (due_in_time p.slots (jobs_of p) w.few_slots w.windows))
     (λ h. let none = no_intervals p h in rw none (homes_of_none (jobs_of p) place (rw none at table)))
 
-pub laid_homed : (p : Plan) (l : Layout) (place : List ℕ) (n : ℕ) (home : List ℕ) → length p.job ≡ max_jobs
+pub laid_homed : (p : Plan) (l : Layout) (place home : List ℕ)
     → l ≡ laid (intervals p) → PlacesFrom 0 (listed l) place
-    → n ≡ min p.jobs max_jobs → home ≡ filled max_jobs max_intervals (map (λ j. entry_for place j.deadline) (take n p.job)) → homed l home ≡ layout_of p
+    → home ≡ filled max_jobs max_intervals (map (λ j. entry_for place j.deadline) (jobs_of p)) → homed l home ≡ layout_of p
 unfolding laid layout_of homes
-laid_homed p l place n home size e table few h =
-    let jobs : take n p.job ≡ jobs_of p = rw few (take_min p.jobs max_jobs p.job size) in
-    rw (h, jobs, homes_are p place (rw (listed_laid l (intervals p) e) at table), e)
+laid_homed p l place home e table h = rw (h, homes_are p place (rw (listed_laid l (intervals p) e) at table), e)

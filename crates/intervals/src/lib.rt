@@ -10,7 +10,7 @@ ghost use Rattle.intervals.specs.Deadlines.{Windowed};
 ghost use Rattle.intervals.specs.Laid.{laid, all_intervals};
 
 use by_deadline::{homes_by, longest_windows, next_deadline, places_by_end};
-use plan::{JOBS, Job, Plan};
+use plan::{JOBS, Job, Plan, jobs_of};
 
 mod by_deadline;
 
@@ -34,7 +34,8 @@ pub struct Layout {
 impl Layout {
     // The intervals, in order.
     pub fn listed(&self) -> &[Interval]
-        ensures { result.now ≡ listed self.now }
+        ensures all { result.now ≡ listed self.now }
+        ensures few { length result.now ≤ max_intervals }
     {
         &self.interval[..INTERVALS.min(usize::from(self.count))]
     }
@@ -94,26 +95,25 @@ fn plan_intervals(p: &Plan) -> Layout
     ensures { result ≡ laid (intervals p.now) }
 {
     if plan::windows_hold(*p) {
-        let job = &p.job[..usize::from(p.jobs)];
-        intervals_of(job, p.slots)
+        intervals_of(jobs_of(p), p.slots)
     } else {
         empty_layout()
     }
 }
 
 // The intervals of a plan with the homes of its jobs, worked out once.
-pub fn layout_of(p: Plan) -> Layout
-    ensures { result ≡ layout_of p }
+pub fn layout_of(p: &Plan) -> Layout
+    ensures { result ≡ layout_of p.now }
 {
-    let bare = plan_intervals(&p);
+    let bare = plan_intervals(p);
     let place = places_by_end(bare.listed());
-    let home = homes_by(&place, &p.job[..JOBS.min(usize::from(p.jobs))]);
+    let home = homes_by(&place, jobs_of(p));
     Layout { home, ..bare }
 }
 
 // How many intervals are past at border t: the next one is the current.
-pub fn past_of(l: Layout, t: u16) -> usize
-    ensures { result ≡ past_in l t }
+pub fn past_of(l: &Layout, t: u16) -> usize
+    ensures { result ≡ past_in l.now t }
 {
     l.listed().iter().take_while(|x| x.end <= t).count()
 }

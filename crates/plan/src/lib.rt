@@ -2,11 +2,11 @@
 // The text is in plan_text, the judgement of a whole plan in acceptance.
 #![tactic(auto)]
 
-ghost use Rattle.std.specs.Prelude.{◌≡◌, map, ◌≤◌, ◌<◌, length, take};
+ghost use Rattle.std.specs.Prelude.{◌≡◌, map, take, length, ◌≤◌, ◌<◌};
 ghost use Rattle.words.specs.Words.{every};
 ghost use Rattle.answers.specs.Answer.{SlotLimit, JobLimit, ◌unless◌};
 ghost use Rattle.plan.specs.Limits.{max_slots, max_jobs, one_to};
-ghost use Rattle.plan.specs.Plan.{blank_job, blank_plan, is_hi, counts_at};
+ghost use Rattle.plan.specs.Plan.{blank_job, blank_plan, jobs_of, is_hi, counts_at};
 ghost use Rattle.plan.specs.Rules.{window_holds, budget_holds, windows_hold};
 ghost use Rattle.plan.specs.Counts.{counted_with};
 
@@ -89,6 +89,14 @@ pub fn first_jobs(job: &[Job; JOBS], n: u16) -> &[Job]
     ensures few { length result.now ≤ max_jobs }
 {
     &job[..JOBS.min(usize::from(n))]
+}
+
+// The jobs of a plan; of a record with a larger n all that it has.
+pub fn jobs_of(p: &Plan) -> &[Job]
+    ensures jobs { result.now ≡ jobs_of p.now }
+    ensures few { length result.now ≤ max_jobs }
+{
+    first_jobs(&p.job, p.jobs)
 }
 
 // 2: N not 1..512.

@@ -1,7 +1,7 @@
 // The ready jobs as one 32-bit set, job 1 at bit 0, and the earliest-deadline walk over a set. Who gets a slot is chosen in executive.
 #![tactic(auto)]
 
-ghost use Rattle.std.specs.Prelude.{◌≡◌, ◌-◌, ◌≤◌, ◌<◌, Bool, length, take};
+ghost use Rattle.std.specs.Prelude.{◌≡◌, ◌-◌, ◌≤◌, ◌<◌, Bool, true, false, length, take};
 ghost use mathlib.Core.List.{zip_with};
 ghost use Rattle.plan.specs.Limits.{max_jobs};
 ghost use Rattle.plan.specs.declared.Job.{Job};
@@ -9,7 +9,7 @@ ghost use Rattle.entries.specs.declared.Entry.{Entry};
 ghost use Rattle.ready.specs.Ready.{is_ready, members_among, members_of, set_of, goes_before, better, earliest, among};
 
 use entries::{Entry, is_live};
-use plan::{JOBS, Job, is_hi};
+use plan::{JOBS, Job, first_jobs, is_hi};
 
 // What a slot is given to.
 #[derive(Clone, Copy)]
@@ -41,16 +41,22 @@ fn set_where<F: Fn(Job, Entry) -> bool>(job: &[Job], entry: &[Entry], passes: F)
     set
 }
 
-// The set of the ready ones of the first n jobs, or with `hi` of the ready HI jobs; n beyond the array means all of it.
-pub fn ready_set(hi: bool, t: u16, job: [Job; JOBS], entry: [Entry; JOBS], n: u16) -> u32
-    ensures { result ≡ set_of (members_among hi t (take n job) entry) }
+// The set of the ready ones of the first n jobs; n beyond the array means all of it.
+pub fn ready_set(t: u16, job: &[Job; JOBS], entry: &[Entry; JOBS], n: u16) -> u32
+    ensures { result ≡ set_of (members_among false t (take n job.now) entry.now) }
 {
-    let first = &job[..JOBS.min(usize::from(n))];
-    if hi {
-        set_where(first, &entry, |j, e| is_ready(t, j, e) && is_hi(j))
-    } else {
-        set_where(first, &entry, |j, e| is_ready(t, j, e))
-    }
+    set_where(first_jobs(job, n), entry, |j, e| is_ready(t, j, e))
+}
+
+// The same of the ready HI jobs alone.
+pub fn ready_hi_set(t: u16, job: &[Job; JOBS], entry: &[Entry; JOBS], n: u16) -> u32
+    ensures { result ≡ set_of (members_among true t (take n job.now) entry.now) }
+{
+    set_where(
+        first_jobs(job, n),
+        entry,
+        |j, e| is_ready(t, j, e) && is_hi(j),
+    )
 }
 
 // Least deadline, then HI before LO; of two alike the lower number stays.
@@ -81,14 +87,14 @@ fn better(job: &[Job; JOBS], best: Slot, k: u16) -> Slot
 }
 
 // The member of earliest deadline, none means idle. Each turn takes the lowest member out.
-pub fn earliest(job: [Job; JOBS], set: u32) -> Slot
-    ensures { result ≡ earliest job (members_of max_jobs set) }
+pub fn earliest(job: &[Job; JOBS], set: u32) -> Slot
+    ensures { result ≡ earliest job.now (members_of max_jobs set) }
 {
     let mut best = Slot::Idle;
     let mut rest = set;
     while rest != 0 {
         let lowest = rest.trailing_zeros();
-        best = better(&job, best, lowest as u16 + 1);
+        best = better(job, best, lowest as u16 + 1);
         rest -= 1 << lowest;
     }
     best

@@ -63,10 +63,6 @@ row_at [] (suc n) (suc i) = row_at [] n i
 row_at (x ∷ xs) n zero = refl
 row_at (x ∷ xs) n (suc i) = row_at xs n i
 
--- a layout lists no more than it holds
-pub listed_few : (l : Layout) → length l.interval ≡ max_intervals → length (listed l) ≤ max_intervals
-listed_few l size = omega (arith, length-take l.count l.interval)
-
 pub past_within : (t : ℕ) (xs : List Interval) → past t xs ≤ length xs
 unfolding past
 past_within t [] = omega arith

@@ -7,8 +7,8 @@ use intervals::{INTERVALS, Layout, past_of};
 use plan::JOBS;
 
 // The work at home in each place, in one pass over the jobs; a home beyond the last place counts nowhere.
-pub fn work_by_home(home: [u16; JOBS], work: [u16; JOBS]) -> [u32; INTERVALS]
-    ensures { result ≡ sums_by_home home work }
+pub fn work_by_home(home: &[u16; JOBS], work: &[u16; JOBS]) -> [u32; INTERVALS]
+    ensures { result ≡ sums_by_home home.now work.now }
 {
     let mut sums = [0; INTERVALS];
     for (k, place) in home.iter().enumerate() {
@@ -21,8 +21,8 @@ pub fn work_by_home(home: [u16; JOBS], work: [u16; JOBS]) -> [u32; INTERVALS]
 }
 
 // At border t the current interval is in debt: the intervals from the last down to it ask more than their room.
-pub fn in_debt(l: Layout, t: u16, sums: &[u32; INTERVALS]) -> bool
-    ensures { result ≡ in_debt l t sums.now }
+pub fn in_debt(l: &Layout, t: u16, sums: &[u32; INTERVALS]) -> bool
+    ensures { result ≡ in_debt l.now t sums.now }
 {
     let listed = l.listed();
     let mut debt = 0;

@@ -12,7 +12,7 @@ ghost use Rattle.spares.specs.Work.{work_of, rows_in};
 use debt::work_by_home;
 use entries::Entry;
 use intervals::{INTERVALS, Interval, Layout, past_of};
-use plan::{JOBS, Job, is_hi};
+use plan::{JOBS, Job, first_jobs, is_hi};
 use work::work_of;
 
 pub mod debt;
@@ -80,11 +80,11 @@ fn asked_of(x: Interval, t: u16, work: u32, debt: u64) -> u64
 }
 
 // The spares of a layout at border t for this work, a number a job. Worked out last first; the debt is what later intervals borrow.
-pub fn row_of(l: Layout, t: u16, work: [u16; JOBS]) -> Row
-    ensures { result ≡ row_in l t work }
+pub fn row_of(l: &Layout, t: u16, work: &[u16; JOBS]) -> Row
+    ensures { result ≡ row_in l.now t work.now }
 {
     let listed = l.listed();
-    let sums = work_by_home(l.home, work);
+    let sums = work_by_home(&l.home, work);
     let mut row = blank_row();
     let mut debt = 0;
     for i in (0..listed.len()).rev() {
@@ -97,13 +97,13 @@ pub fn row_of(l: Layout, t: u16, work: [u16; JOBS]) -> Row
 }
 
 // Both rows of a layout at border t, for the first n jobs with these entries; n beyond the array means all of it.
-pub fn rows_of(l: Layout, t: u16, job: [Job; JOBS], entry: [Entry; JOBS], n: u16) -> Rows
-    ensures { result ≡ rows_in l t (work_of (take n job) entry) }
+pub fn rows_of(l: &Layout, t: u16, job: &[Job; JOBS], entry: &[Entry; JOBS], n: u16) -> Rows
+    ensures { result ≡ rows_in l.now t (work_of (take n job.now) entry.now) }
 {
-    let work = work_of(&job[..JOBS.min(usize::from(n))], &entry);
+    let work = work_of(first_jobs(job, n), entry);
     Rows {
-        hi: row_of(l, t, work.hi),
-        lo: row_of(l, t, work.lo),
+        hi: row_of(l, t, &work.hi),
+        lo: row_of(l, t, &work.lo),
     }
 }
 
@@ -115,16 +115,16 @@ pub fn blank_row() -> Row
 }
 
 // Two rows have the same spares.
-pub fn same_row(a: Row, b: Row) -> bool
-    ensures { result ≡ same_row a b }
+pub fn same_row(a: &Row, b: &Row) -> bool
+    ensures { result ≡ same_row a.now b.now }
 {
     a == b
 }
 
 // The current spare of a row: that of the interval which holds slot t; beyond the row there is 0.
 #[tactic(auto, unfolding(crate::specs::InLayout::current_in))]
-pub fn current(l: Layout, t: u16, row: Row) -> Spare
-    ensures { result ≡ current_in l t row }
+pub fn current(l: &Layout, t: u16, row: &Row) -> Spare
+    ensures { result ≡ current_in l.now t row.now }
 {
     row.get(past_of(l, t)).copied().unwrap_or(0)
 }

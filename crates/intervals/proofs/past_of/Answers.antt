@@ -11,5 +11,5 @@ use Rattle.intervals.proofs.past_of.Goals as goal
 pub returns : goal.returns
 unfolding past_in
 returns c =
-    rw (← past_first c.args.t (listed c.args.l))
-    (count_from_yields_List _ _ c.count.ensures.ran (YieldsList-from_take_while _ (λ x. x.end ≤? c.args.t) (YieldsList-from_slice (listed c.args.l) cc) c.take_while.ensures.closure c.take_while.ensures.done (λ x b q k. search rules)))
+    rw (← past_first c.args.t (listed c.args.l.now))
+    (count_from_yields_List _ _ c.count.ensures.ran (YieldsList-from_take_while _ (λ x. x.end ≤? c.args.t) (YieldsList-from_slice (listed c.args.l.now) cc) c.take_while.ensures.closure c.take_while.ensures.done (λ x b q k. search rules)))

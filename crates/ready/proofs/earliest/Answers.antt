@@ -25,9 +25,9 @@ loop-rest-preserved c =
     let v = c.loop-rest in
     let some : 0 < v.rest = omega (arith, c.loop-rest-test.true) in
     rw (shl (goal.at.loop-rest-preserved c).In-loop-rest)
-    (turn_among c.args.job 32 v.best v.rest _ some v.invariant.1 c.better-best.ensures v.invariant.0, omega (arith, v.invariant.1), turn c.args.job 32 v.best v.rest _ some v.invariant.1 c.better-best.ensures ∙ v.invariant.2)
+    (turn_among c.args.job.now 32 v.best v.rest _ some v.invariant.1 c.better-best.ensures v.invariant.0, omega (arith, v.invariant.1), turn c.args.job.now 32 v.best v.rest _ some v.invariant.1 c.better-best.ensures ∙ v.invariant.2)
 
 pub returns : goal.returns
 returns c =
     let v = c.loop-rest in
-    sym (walk_end c.args.job v.best 1 32) ∙ (rw c.loop-rest-test.false at v.invariant.2)
+    sym (walk_end c.args.job.now v.best 1 32) ∙ (rw c.loop-rest-test.false at v.invariant.2)

@@ -3,4 +3,4 @@ use Rattle.spares.specs.Debt.{RowSoFar}
 use Rattle.spares.proofs.row_of.Given as goal
 
 abbrev pub invariant-loop-i : goal.invariant-loop-i
-invariant-loop-i l = RowSoFar l.t l.fn.l.home l.fn.work l.listed l.row l.debt l.i
+invariant-loop-i l = RowSoFar l.t l.l.home l.work l.listed l.row l.debt l.i

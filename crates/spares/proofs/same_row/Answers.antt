@@ -6,6 +6,6 @@ use Rattle.spares.proofs.same_row.Goals as goal
 
 pub returns : goal.returns
 returns c =
-    let a : length c.args.a ≡ max_intervals = search rules in
-    let b : length c.args.b ≡ max_intervals = search rules in
-    c.eq.ensures ∙ same_row_lem c.args.a c.args.b (a ∙ sym b)
+    let a : length c.args.a.now ≡ max_intervals = search rules in
+    let b : length c.args.b.now ≡ max_intervals = search rules in
+    c.eq.ensures ∙ same_row_lem c.args.a.now c.args.b.now (a ∙ sym b)

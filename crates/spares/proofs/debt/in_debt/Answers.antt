@@ -1,21 +1,16 @@
 -- `spares::debt::in_debt` meets its contract. The loop's invariant: the debt is that of the intervals from place i on.
-use Rattle.std.proofs.Common.{rules, arith, ◌≡◌, ◌-◌, ◌≤◌, length}
-use Rattle.words.specs.ListLaws.{long}
-use Rattle.intervals.specs.Intervals.{max_intervals}
+use Rattle.std.proofs.Common.{rules, arith, ◌≡◌, ◌-◌, length}
 use Rattle.intervals.specs.Layout.{listed, past_in}
 use Rattle.spares.specs.Debt.{of_sums, in_debt}
-use Rattle.spares.specs.DebtLaws.{debt_back, debt_small, debt_none, past_within, listed_few}
+use Rattle.spares.specs.DebtLaws.{debt_back, debt_small, debt_none, past_within}
 use Rattle.spares.proofs.debt.in_debt.Goals as goal
 
 pub loop-i-init : goal.loop-i-init
 unfolding past_in
-loop-i-init c = (rw (c.past_of-i-start.ensures, c.listed-listed.ensures) (past_within c.args.t (listed c.args.l)), search rules, debt_none c.args.t (of_sums c.args.sums.now) c.listed-listed.result.now)
+loop-i-init c = (rw (c.past_of-i-start.ensures, c.listed-listed.ensures.all) (past_within c.args.t (listed c.args.l.now)), search rules, debt_none c.args.t (of_sums c.args.sums.now) c.listed-listed.result.now)
 
 pub asked_of-requires : goal.asked_of-requires
-asked_of-requires c =
-    let size : length c.args.l.interval ≡ max_intervals = search (rules, long) in
-    let few : length c.listed-listed.result.now ≤ max_intervals = rw c.listed-listed.ensures (listed_few c.args.l size) in
-    omega (arith, c.loop-i.invariant.1)
+asked_of-requires c = omega (arith, c.loop-i.invariant.1, c.listed-listed.ensures.few)
 
 pub loop-i-preserved : goal.loop-i-preserved
 loop-i-preserved c =
@@ -31,4 +26,4 @@ unfolding in_debt
 returns c =
     let l = c.loop-i in
     let e : l.i ≡ c.past_of-i-start.result = omega arith in
-    rw (l.invariant.2, e, c.past_of-i-start.ensures, c.listed-listed.ensures)
+    rw (l.invariant.2, e, c.past_of-i-start.ensures, c.listed-listed.ensures.all)

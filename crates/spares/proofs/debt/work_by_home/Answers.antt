@@ -6,14 +6,14 @@ use Rattle.spares.proofs.debt.work_by_home.Goals as goal
 use Rattle.spares.proofs.debt.work_by_home.Goals.{then-place-lt-INTERVALS, else-place-lt-INTERVALS}
 
 pub loop-k-init : goal.loop-k-init
-loop-k-init c = sums_start c.args.home c.args.work
+loop-k-init c = sums_start c.args.home.now c.args.work.now
 
 pub loop-k-preserved : goal.loop-k-preserved
 loop-k-preserved c =
     let l = c.loop-k in
-    let small : Fits w16 (get_or c.args.work l.k 0) = search rules in
-    let summed : c.if-place-lt-INTERVALS.sums ≡ with_work l.sums c.from-place.result (get_or c.args.work l.k 0) = elim c.if-place-lt-INTERVALS.branch [ then-place-lt-INTERVALS w ↦ w.sums-is ∙ work_counted _ _ _ w.if-place-lt-INTERVALS.true w.from.ensures | else-place-lt-INTERVALS w ↦ w.sums-is ∙ work_nowhere _ _ _ w.if-place-lt-INTERVALS.false ] in
-    sums_more c.args.home c.args.work l.sums c.if-place-lt-INTERVALS.sums l.k l.invariant (search rules) (search rules) (search rules) (omega (arith, small.fits)) (rw (← c.from-place.ensures) summed)
+    let small : Fits w16 (get_or c.args.work.now l.k 0) = search rules in
+    let summed : c.if-place-lt-INTERVALS.sums ≡ with_work l.sums c.from-place.result (get_or c.args.work.now l.k 0) = elim c.if-place-lt-INTERVALS.branch [ then-place-lt-INTERVALS w ↦ w.sums-is ∙ work_counted _ _ _ w.if-place-lt-INTERVALS.true w.from.ensures | else-place-lt-INTERVALS w ↦ w.sums-is ∙ work_nowhere _ _ _ w.if-place-lt-INTERVALS.false ] in
+    sums_more c.args.home.now c.args.work.now l.sums c.if-place-lt-INTERVALS.sums l.k l.invariant (search rules) (search rules) (search rules) (omega (arith, small.fits)) (rw (← c.from-place.ensures) summed)
 
 pub returns : goal.returns
-returns c = sums_end c.args.home c.args.work _ _ c.loop-k.invariant c.loop-k-test.false (search rules)
+returns c = sums_end c.args.home.now c.args.work.now _ _ c.loop-k.invariant c.loop-k-test.false (search rules)

@@ -3,4 +3,4 @@ use Rattle.spares.specs.Debt.{SumsSoFar}
 use Rattle.spares.proofs.debt.work_by_home.Given as goal
 
 abbrev pub invariant-loop-k : goal.invariant-loop-k
-invariant-loop-k l = SumsSoFar l.fn.home l.work l.sums l.k
+invariant-loop-k l = SumsSoFar l.home l.work l.sums l.k

@@ -27,4 +27,4 @@ pub returns : goal.returns
 unfolding members
 returns c =
     let g = c.args.self in
-    hi_slot g.run (to_z w32 (of_z w32 g.hi)) (to_z w32 (of_z w32 g.lo)) _ _ _ (to_z-of_z {w = w32} (search rules) ∙ g.hi_now) (to_z-of_z {w = w32} (search rules) ∙ g.lo_now) c.open_to_all.ensures (full (goal.at.returns c).Start) c.if-open_to_all.false c.ready_set-ready_hi.ensures c.earliest-2.ensures
+    hi_slot g.run (to_z w32 (of_z w32 g.hi)) (to_z w32 (of_z w32 g.lo)) _ _ _ (to_z-of_z {w = w32} (search rules) ∙ g.hi_now) (to_z-of_z {w = w32} (search rules) ∙ g.lo_now) c.open_to_all.ensures (full (goal.at.returns c).Start) c.if-open_to_all.false c.ready_hi_set-ready_hi.ensures c.earliest-2.ensures

@@ -1,0 +1,8 @@
+-- `ready_hi_set` meets its contract: the jobs that pass its test, among the first n.
+use Rattle.std.proofs.Common.{true, rules, sym}
+use Rattle.ready.specs.Ready.{is_member, members_among}
+use Rattle.ready.proofs.ready_hi_set.Goals as goal
+
+pub returns : goal.returns
+unfolding members_among is_member
+returns c = rw (sym c.first_jobs.ensures.all) (c.set_where.ensures (is_member true c.args.t) (λ j e b p. search rules))
