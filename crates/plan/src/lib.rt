@@ -6,7 +6,7 @@ ghost use Rattle.std.specs.Prelude.{◌≡◌, map, ◌≤◌, ◌<◌, length, 
 ghost use Rattle.words.specs.Words.{every};
 ghost use Rattle.answers.specs.Answer.{SlotLimit, JobLimit, ◌unless◌};
 ghost use Rattle.plan.specs.Limits.{max_slots, max_jobs, one_to};
-ghost use Rattle.plan.specs.Plan.{blank_job, blank_plan, is_hi, counts_at};
+ghost use Rattle.plan.specs.Plan.{blank_job, blank_plan, jobs_of, is_hi, counts_at};
 ghost use Rattle.plan.specs.Rules.{window_holds, budget_holds, windows_hold};
 ghost use Rattle.plan.specs.Counts.{counted_with};
 
@@ -38,13 +38,6 @@ pub struct Plan {
     pub jobs: u16,
     pub job: [Job; JOBS],
     pub table: [u16; SLOTS],
-}
-
-// A number as an index.
-pub fn wide(x: u16) -> usize
-    ensures { (result ≡ x) × (result < 65536) }
-{
-    usize::from(x)
 }
 
 pub fn is_hi(j: Job) -> bool
@@ -89,6 +82,14 @@ pub fn first_jobs(job: &[Job; JOBS], n: u16) -> &[Job]
     ensures few { length result.now ≤ max_jobs }
 {
     &job[..JOBS.min(usize::from(n))]
+}
+
+// The plan's jobs; of a record whose n is larger than its array all that it has.
+pub fn jobs_of(p: &Plan) -> &[Job]
+    ensures jobs { result.now ≡ jobs_of p.now }
+    ensures few { length result.now ≤ max_jobs }
+{
+    first_jobs(&p.job, p.jobs)
 }
 
 // 2: N not 1..512.
@@ -141,9 +142,7 @@ fn every_window(jobs: &[Job], slots: u16) -> bool
 pub fn windows_hold(p: Plan) -> bool
     ensures { result ≡ windows_hold p }
 {
-    one_to(SLOTS, p.slots)
-        && one_to(JOBS, p.jobs)
-        && every_window(first_jobs(&p.job, p.jobs), p.slots)
+    one_to(SLOTS, p.slots) && one_to(JOBS, p.jobs) && every_window(jobs_of(&p), p.slots)
 }
 
 // The counts with one more for job k.
