@@ -1,5 +1,5 @@
--- The definitions of a line in the library's words: what a line's length, a key, equal bytes and the lines of a text are to `position`,
--- `starts_with`, `==` and `filter`.
+-- The definitions of a line in the library's words: what a line's length, a key and the lines of a text are to `position`,
+-- `starts_with` and `filter`.
 use Rattle.std.specs.Prelude.{ℕ, ◌-◌, ◌≤◌, ◌<◌, min, ◌≡◌, refl, Bool, true, false, not, ◌&&◌, List, [], ◌∷◌, eqb, length, take, drop, Option, Some, None, unwrap_or, position, filter}
 use Rattle.std.specs.List.{starts_with, list_any, position_or_len}
 use Rattle.std.proofs.Common.{one-add, arith, sym, ap, ◌∙◌, take_all, length-drop, lt-ltb, le-ltb, le-leb, length-take}
@@ -7,11 +7,10 @@ use Rattle.std.proofs.lemmas.Option.{none-some, same_Some}
 use Rattle.std.proofs.lemmas.List.{drop_min}
 use Rattle.std.proofs.lemmas.List.Recursion.{is_position_or_len}
 use Rattle.std.proofs.lemmas.List.Sums.{prefix_len-le-length}
-use lib.Pointwise.{pointwise}
 use Rattle.std.proofs.lemmas.Bool.{eqb-true, eq-eqb, ne_eqb, lt-leb}
 use Rattle.words.specs.Words.{◌≤?◌}
 use Rattle.words.specs.Cases.{by_test, by_less}
-use Rattle.lines.specs.Lines.{line_length, lines_in, begins, same_bytes}
+use Rattle.lines.specs.Lines.{line_length, lines_in, begins}
 use Rattle.lines.specs.Reading.{line_here}
 
 -- ---- the part of a text from a place on
@@ -85,15 +84,6 @@ key_is (k ∷ key) (b ∷ s) = by_test (eqb b 10) ends (goes (key_is key s))
 pub key_here : (key t : List ℕ) (at : ℕ) → begins key (line_here t at) ≡ (starts_with eqb (drop at t) key && not (list_any (λ b. eqb b 10) key))
 unfolding line_here
 key_here key t at = key_is key (drop at t)
-
--- ---- equal bytes
-
-pub same_is : (s t : List ℕ) → pointwise eqb s t ≡ same_bytes s t
-unfolding same_bytes
-same_is [] [] = refl
-same_is [] (b ∷ t) = refl
-same_is (a ∷ s) [] = refl
-same_is (a ∷ s) (b ∷ t) = ap (λ r. eqb a b && r) (same_is s t)
 
 -- ---- complete lines
 

@@ -138,6 +138,21 @@ digits_upto (suc k) n h =
 pub digits_bound : (n : ℕ) → (1 ≤ length (digits n)) × (length (digits n) ≤ n + 1)
 digits_bound n = digits_upto n n (omega arith)
 
+-- a number of one digit is below 10, one of more is not
+pub digits_few : (n : ℕ) → length (digits n) ≤ 1 → n < 10
+digits_few n h =
+    elim (dec_lt n 10) [
+      | yes s ↦ s
+      | no s ↦ absurd (omega (arith, digits_shorter n (omega arith), digits_bound (n / 10)))
+    ]
+
+pub digits_many : (n : ℕ) → 2 ≤ length (digits n) → 10 ≤ n
+digits_many n h =
+    elim (dec_lt n 10) [
+      | yes s ↦ absurd (omega (arith, ap length (digits_one n s)))
+      | no s ↦ omega arith
+    ]
+
 -- the last digits of n stand in the output from `end + 1` on, and those of `rest` are left
 pub record Tail (n at : ℕ) (out₀ out : List ℕ) (end rest : ℕ) : Type 0 where
   pub tail : List ℕ

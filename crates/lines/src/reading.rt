@@ -1,7 +1,7 @@
 // Lines read: on a text and a place in it, the key of a `key=value` line, where the line ends, and what a value means.
 // Every function answers every text and every place. The reader that goes from line to line is in line_reader, the lines of a plan in plan_text.
 ghost use Rattle.std.specs.Prelude.{◌≡◌, ◌+◌, ◌≤◌, ◌==◌, length, take, drop, position};
-ghost use Rattle.lines.specs.Lines.{line_length, begins, same_bytes, number, number_from};
+ghost use Rattle.lines.specs.Lines.{line_length, begins, number, number_from};
 ghost use Rattle.lines.specs.Reading.{line_here};
 
 // Where a line's value stands: its first byte, its length, and the first byte of the next line.
@@ -33,13 +33,6 @@ pub fn key_at(text: &[u8], at: usize, key: &[u8]) -> bool
 {
     let rest = &text[at.min(text.len())..];
     rest.starts_with(key) && !key.contains(&b'\n')
-}
-
-// The two are the same bytes.
-pub fn same_bytes(s: &[u8], word: &[u8]) -> bool
-    ensures { result ≡ same_bytes s.now word.now }
-{
-    s == word
 }
 
 // The part of the caller's text that is `len` bytes from `start` on; past the end it is the shorter part, or none.

@@ -49,7 +49,7 @@ fn digit(d: u32) -> u8
 }
 
 // The digits of n at `at`, from the last to the first.
-#[tactic(auto, using(crate::specs::WritingLaws::put_refused, crate::specs::WritingLaws::after_refused, crate::specs::WritingLaws::put_fits, crate::specs::WritingLaws::after_fits, crate::specs::WritingLaws::digits_shorter, crate::specs::WritingLaws::digits_bound, crate::specs::WritingLaws::tail_start, crate::specs::WritingLaws::tail_room, crate::specs::WritingLaws::tail_more, crate::specs::WritingLaws::tail_done))]
+#[tactic(auto, using(crate::specs::WritingLaws::put_refused, crate::specs::WritingLaws::after_refused, crate::specs::WritingLaws::after_fits, crate::specs::WritingLaws::digits_bound, crate::specs::WritingLaws::tail_room))]
 pub fn put_number(out: &mut [u8], at: usize, n: u32) -> usize
     ensures value { result ≡ place_after at (digits n) out.old }
     ensures out_after { out.new ≡ put_fit at (digits n) out.old }
@@ -58,14 +58,12 @@ pub fn put_number(out: &mut [u8], at: usize, n: u32) -> usize
     if !has_room(out.len(), at, len) {
         return at;
     }
-    let mut end = at + len - 1;
     let mut rest = n;
-    while rest >= 10 {
-        out[end] = digit(rest % 10);
-        end -= 1;
+    for i in (at + 1..at + len).rev() {
+        out[i] = digit(rest % 10);
         rest /= 10;
     }
-    out[end] = digit(rest);
+    out[at] = digit(rest);
     at + len
 }
 

@@ -1,14 +1,13 @@
 -- Laws of the plan at a place of a text: the rest of the text begins at the place that is handed back.
-use Rattle.std.specs.Prelude.{ℕ, ◌-◌, ◌≤◌, ◌≡◌, List}
+use Rattle.std.specs.Prelude.{ℕ, ◌≤◌, ◌≡◌, List}
 use Rattle.std.proofs.Common.{arith}
 use Rattle.std.proofs.Math.Path.{refl, ap}
 use Rattle.std.proofs.Math.Bool.{true, false}
 use Rattle.std.proofs.Math.ListN.{length}
 use Rattle.answers.specs.Answer.{SlotLimit, JobLimit, accepted, ◌unless◌}
-use Rattle.plan.specs.declared.Job.{Job}
 use Rattle.plan.specs.declared.Plan.{Plan}
 use Rattle.plan.specs.Limits.{max_slots, max_jobs, one_to}
-use Rattle.lines.specs.Lines.{number, Read, got, refused, onward, must, many, field}
+use Rattle.lines.specs.Lines.{number, Read, got, refused, must, many, field}
 use Rattle.lines.specs.Reading.{standing}
 use Rattle.lines.specs.ForwardLaws.{end_self, end_place, Forward, GoesForward, onward_forward, must_forward, many_forward, field_forward}
 use Rattle.plan_text.specs.Read.{level_in, next_job, next_plan, start_of}

@@ -1,5 +1,5 @@
 -- What the reader's functions answer: a line, a job, the jobs, the slots, and the plan at a place of a text.
-use Rattle.std.specs.Prelude.{ℕ, suc, ◌+◌, ◌-◌, ◌*◌, ◌≤◌, ◌≡◌, Bool, true, List, length, Option, Some, None, Result, Ok, Err, is_ok, if◌then◌else◌}
+use Rattle.std.specs.Prelude.{ℕ, ◌+◌, ◌-◌, ◌*◌, ◌≤◌, ◌≡◌, Bool, true, List, length, Option, Some, None, Result, Ok, Err, is_ok, if◌then◌else◌}
 use Rattle.words.specs.Words.{◌≤?◌}
 use Rattle.answers.specs.declared.Refusal.{Refusal}
 use Rattle.answers.specs.Answer.{Answer, Accepted, Form}

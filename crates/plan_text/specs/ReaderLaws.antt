@@ -1,18 +1,18 @@
 -- Laws of the reader: a line taken is the definitions' field, and one reader goes on after the other.
-use Rattle.std.specs.Prelude.{ℕ, suc, ◌+◌, ◌-◌, drop, false, ◌*◌, ◌≤◌, ◌<◌, ◌≡◌, refl, Bool, true, List, length, set, replicate, Option, Some, None, Result, Ok, Err, is_ok}
+use Rattle.std.specs.Prelude.{ℕ, ◌+◌, ◌-◌, drop, false, ◌*◌, ◌≤◌, ◌<◌, ◌≡◌, refl, true, List, length, set, replicate, Option, Some, None, Result, Ok, Err}
 use borrow.Author.Tests.{lt-leb, le-leb, eq-eqb, ne_eqb}
-use Rattle.std.proofs.Common.{length-drop, arith, sym, ap, ◌∙◌, add-one, mul-suc, mul-le-mul_left}
+use Rattle.std.proofs.Common.{length-drop, arith, sym, ◌∙◌, add-one, mul-suc, mul-le-mul_left}
 use Rattle.words.specs.Cases.{never}
 use Rattle.words.specs.Words.{filled, ◌=?◌}
 use Rattle.answers.specs.declared.Refusal.{Refusal}
 use Rattle.answers.specs.Answer.{Answer, accepted}
-use Rattle.lines.specs.Lines.{Read, got, refused, Reader, give, onward, ◌>>=◌, must, many, nothing_after}
+use Rattle.lines.specs.Lines.{bytes, got, refused, Reader, give, ◌>>=◌, must, many, nothing_after}
 use Rattle.lines.specs.Reading.{field_at, standing, line_with}
-use Rattle.lines.specs.ReadingLaws.{field_got, field_refused}
+use Rattle.lines.specs.ReadingLaws.{same_length, field_got, field_refused}
 use Rattle.lines.specs.ManyLaws.{onward_filled, Filling, filling_starts, filling_on, filling_stops, filling_ends}
 use Rattle.plan.specs.declared.Plan.{Plan}
-use Rattle.plan_text.specs.Read.{next_plan, only_plan, read_plan}
-use Rattle.plan_text.specs.Reader.{stands, read_of, Reads, Taken, many_filled, last_line, plan_lines, plan_from, prefix_told, plan_told}
+use Rattle.plan_text.specs.Read.{level_in, next_plan, only_plan, read_plan}
+use Rattle.plan_text.specs.Reader.{stands, Reads, Taken, many_filled, last_line, plan_lines, plan_from, prefix_told, plan_told}
 use Rattle.plan_text.specs.declared.reader.Lines.{Lines}
 
 module _ {A : Type 0} (meaning : List ℕ → Option A) (key : List ℕ) (before after : Lines) (answer : Result A Refusal) where
@@ -173,3 +173,10 @@ module _ (before after : Lines) (first : before.line ≡ 1) (start : before.at �
         let l : length after.text.now ≤ after.at = rw r.text h in
         let n : (length (drop after.at after.text.now) =? 0) ≡ true = eq-eqb (length (drop after.at after.text.now)) 0 (omega (arith, rest)) in
         rw (← was, n)
+
+-- ---- a level
+
+-- a level has two letters
+pub level_two : (s : List ℕ) → (length s ≡ 2 → ⊥) → None ≡ level_in s
+unfolding level_in
+level_two s h = rw (sym (same_length s (bytes "HI") h), sym (same_length s (bytes "LO") h))

@@ -1,7 +1,7 @@
 -- Laws for the writer's code: the numbers checked line by line, the lengths, the lines put one after the other, and one check after another.
 use Rattle.std.specs.Prelude.{ℕ, suc, ◌+◌, ◌*◌, ◌/◌, ◌≤◌, ◌<◌, ◌≡◌, Bool, true, take, drop, get_or, Ok, Err}
 use Rattle.std.proofs.Common.{add-one, zero-add, arith, ◌∙◌, length-append, drop_of_length-le, drop-cons, take-suc}
-use Rattle.std.proofs.lemmas.List.{take_all, take-append-drop, length-take}
+use Rattle.std.proofs.lemmas.List.{take_all, take-append-drop}
 use Rattle.std.proofs.Math.Numerals.{add-two, add-three, add-four}
 use Rattle.std.proofs.Math.Decide.{dec_lt}
 use Rattle.std.proofs.Math.Path.{refl, sym, ap}
@@ -149,10 +149,6 @@ job_length j =
 
 pub slot_length : (n : ℕ) → length (number_line "slot=" n) ≡ 6 + length (digits n)
 slot_length n = omega (arith, line_length_lem (bytes "slot=") n)
-
--- the first n of m are at most m
-pub first_few : {A : Type 0} (xs all : List A) (n m : ℕ) → xs ≡ take n all → length all ≡ m → length xs ≤ m
-first_few xs all n m e l = omega (arith, ap length e, length-take n all)
 
 -- the texts of many have their lengths' sum
 length_flat : {A : Type 0} (print : A → List ℕ) (xs : List A) → length (flat_map print xs) ≡ sum_by (λ x. length (print x)) xs

@@ -35,17 +35,15 @@ struct Lines<'a> {
     line: u16,
 }
 
-#[tactic(auto, unfolding(crate::specs::Read::level_in))]
+#[tactic(auto, using(crate::specs::ReaderLaws::level_two), unfolding(crate::specs::Read::level_in, lines::specs::Lines::same_bytes))]
 fn level_in(s: &[u8]) -> Option<Level>
     ensures { result ≡ level_in s.now }
 {
-    if lines::reading::same_bytes(s, b"HI") {
-        return Some(Level::Hi);
+    match s {
+        b"HI" => Some(Level::Hi),
+        b"LO" => Some(Level::Lo),
+        _ => None,
     }
-    if lines::reading::same_bytes(s, b"LO") {
-        return Some(Level::Lo);
-    }
-    None
 }
 
 // The level on the line at `at`, and the first byte of the next line.

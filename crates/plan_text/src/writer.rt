@@ -1,8 +1,10 @@
 // The writer of the plan text: the numbers and the room are checked first, then the lines are written one after the other.
 // The lines themselves are in lines::writing, the reader in reader.
-ghost use Rattle.std.specs.Prelude.{◌≡◌, ◌+◌, ◌≤◌, length, take, drop};
+ghost use Rattle.std.specs.Prelude.{◌≡◌, ◌+◌, ◌≤◌, length, drop};
 ghost use mathlib.Core.List.{◌++◌, flat_map};
 ghost use Rattle.answers.specs.Answer.{first_refusal};
+ghost use Rattle.plan.specs.Limits.{max_slots};
+ghost use Rattle.plan.specs.Plan.{slots_of};
 ghost use Rattle.lines.specs.Lines.{digits, line, number_line};
 ghost use Rattle.lines.specs.Writing.{number_line_of};
 ghost use Rattle.plan_text.specs.Sheet.{Puts};
@@ -12,16 +14,17 @@ ghost use Rattle.plan_text.specs.Parts.{numbers_in, four_digits};
 
 use answers::{Answer, Refusal};
 use lines::writing;
-use plan::{Job, Level, Plan};
+use plan::{Job, Level, Plan, SLOTS};
 
 // The largest number of four digits.
 const MOST: u16 = 9999;
 
-// The first n of them all; an n beyond them means all.
-fn first<T>(all: &[T], n: u16) -> &[T]
-    ensures { result.now ≡ take n all.now }
+// The slots of a plan; a number beyond the table means all of it.
+fn slots_of(p: &Plan) -> &[u16]
+    ensures slots { result.now ≡ slots_of p.now }
+    ensures few { length result.now ≤ max_slots }
 {
-    &all[..usize::from(n).min(all.len())]
+    &p.table[..SLOTS.min(usize::from(p.slots))]
 }
 
 // 1 at the line of a number above 9999.
@@ -47,18 +50,18 @@ fn job_fits(line: u16, job: &Job) -> Answer
 }
 
 // 1: the first number of the plan above 9999, at its line.
-#[tactic(auto, using(words::specs::ListLaws::long, crate::specs::WriterLaws::slots_stop, crate::specs::WriterLaws::jobs_stop, crate::specs::WriterLaws::numbers_parts, crate::specs::WriterLaws::job_stops, crate::specs::WriterLaws::job_goes_on, crate::specs::WriterLaws::jobs_end, crate::specs::WriterLaws::slot_stops, crate::specs::WriterLaws::slot_goes_on, crate::specs::WriterLaws::slots_end))]
+#[tactic(auto, using(crate::specs::WriterLaws::slots_stop, crate::specs::WriterLaws::jobs_stop, crate::specs::WriterLaws::numbers_parts, crate::specs::WriterLaws::job_stops, crate::specs::WriterLaws::job_goes_on, crate::specs::WriterLaws::jobs_end, crate::specs::WriterLaws::slot_stops, crate::specs::WriterLaws::slot_goes_on, crate::specs::WriterLaws::slots_end))]
 fn numbers_fit(p: &Plan) -> Answer
     ensures { result ≡ numbers_fit p.now }
 {
     four_digits(1, p.slots)?;
     four_digits(2, p.jobs)?;
     let mut line = 3;
-    for job in first(&p.job, p.jobs) {
+    for job in plan::jobs_of(p) {
         job_fits(line, job)?;
         line += 5;
     }
-    for name in first(&p.table, p.slots) {
+    for name in slots_of(p) {
         four_digits(line, *name)?;
         line += 1;
     }
@@ -100,8 +103,8 @@ fn slot_len(name: &u16) -> usize
 fn text_len(p: &Plan) -> usize
     ensures { result ≡ length (plan_text p.now) }
 {
-    let jobs: usize = first(&p.job, p.jobs).iter().map(job_len).sum();
-    let slots: usize = first(&p.table, p.slots).iter().map(slot_len).sum();
+    let jobs: usize = plan::jobs_of(p).iter().map(job_len).sum();
+    let slots: usize = slots_of(p).iter().map(slot_len).sum();
     13 + digit_count(p.slots) + digit_count(p.jobs) + jobs + slots
 }
 
@@ -153,10 +156,10 @@ fn put_plan(out: &mut [u8], p: &Plan) -> usize
     let mut sheet = Sheet { out, at: 0 };
     sheet.line(b"slots=", p.slots);
     sheet.line(b"jobs=", p.jobs);
-    for job in first(&p.job, p.jobs) {
+    for job in plan::jobs_of(p) {
         sheet.job(job);
     }
-    for name in first(&p.table, p.slots) {
+    for name in slots_of(p) {
         sheet.line(b"slot=", *name);
     }
     sheet.at

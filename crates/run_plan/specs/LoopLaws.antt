@@ -1,10 +1,12 @@
 -- Laws of the run program's loop: each event brings it nearer to rest, the rest of the input moves to the front, and one read is one more piece.
 use Rattle.std.specs.Prelude.{ℕ, ◌+◌, ◌-◌, ◌≤◌, ◌<◌, ◌≡◌, refl, true, false, List, [], ◌∷◌, ◌++◌, length, take, drop, Option, None, Some, IfSome}
-use Rattle.std.proofs.Common.{arith, length-drop, length-take-le, ◌∙◌, sym, ap, append_assoc, drop-drop, take-take, take-append-drop, le-leb}
+use Rattle.std.proofs.Common.{arith, length-drop, length-take, length-take-le, ◌∙◌, sym, ap, append_assoc, drop-drop, take_all, append-nil, le-leb}
 use Rattle.std.specs.List.{copy_within}
 use Rattle.std.proofs.lemmas.List.{take_rest, drop-take}
 use Rattle.std.proofs.lemmas.List.Edits.{take-paste}
-use Rattle.std.proofs.Math.Seq.{take-append_seam}
+use Rattle.std.proofs.Math.Seq.{take-append_seam, take-add}
+use Rattle.std.proofs.KnownBytes.{Appends-nil, Appends-trans}
+use Rattle.std.specs.Io.KnownBytes.{Consumes, Appends}
 use Rattle.plan_text.specs.DecidedLaws.{enough}
 use Rattle.words.specs.Cases.{by_test}
 use Rattle.lines.specs.Writing.{put}
@@ -56,14 +58,15 @@ module _ (c : Console) (text out out' : List ℕ) (room : run_room ≤ length ou
 after_after : (w v : List ℕ) (r : Settled) → after w (after v r) ≡ after (w ++ v) r
 after_after w v r = ap (λ (p : List ℕ). record { printed = p; console = r.console; left = r.left }) (sym (append_assoc w v r.printed))
 
--- the events so far, which printed this, lead to the same rest
-pub record Nearing (first : Console) (text : List ℕ) (c : Console) (done : ℕ) : Type 0 where
+-- the events so far, which printed this, lead to the same rest, and what they printed has gone out
+pub record Nearing (first : Console) (text : List ℕ) (c : Console) (done : ℕ) (sent sent' : Option (List ℕ)) : Type 0 where
   pub within : done ≤ length text
   pub printed : List ℕ
   pub rest : at_rest first text ≡ after printed (at_rest c (drop done text))
+  pub gone : Appends sent sent' printed
 
-pub near_start : (c : Console) (text : List ℕ) → Nearing c text c 0
-near_start c text = record { within = omega arith; printed = []; rest = refl }
+pub near_start : (c : Console) (text : List ℕ) (sent : Option (List ℕ)) → Nearing c text c 0 sent sent
+near_start c text sent = record { within = omega arith; printed = []; rest = refl; gone = Appends-nil sent }
 
 module _ (c : Console) (s : List ℕ) (c' : Console) (s' : List ℕ) (e : c' ≡ (event c s).console) (f : s' ≡ drop (event c s).used s) (goes : (event c s).waiting ≡ false) where
   rest_on : (w : List ℕ) → after w (at_rest c s) ≡ after (w ++ (event c s).printed) (at_rest c' s')
@@ -72,7 +75,7 @@ module _ (c : Console) (s : List ℕ) (c' : Console) (s' : List ℕ) (e : c' ≡
   less : todo c' s' < todo c s
   less = rw (e, f) (event_less c s goes)
 
-module _ (first : Console) (text : List ℕ) (c : Console) (done : ℕ) (h : Nearing first text c done) where
+module _ (first : Console) (text : List ℕ) (c : Console) (done : ℕ) (sent sent' : Option (List ℕ)) (h : Nearing first text c done sent sent') where
   module _ (turn : Turn) (out : List ℕ) (went : Went c (take (length text - done) (drop done text)) turn out) where
     here : Went c (drop done text) turn out
     here = rw (take_rest text done) at went
@@ -80,24 +83,35 @@ module _ (first : Console) (text : List ℕ) (c : Console) (done : ℕ) (h : Nea
     left : drop (done + turn.used) text ≡ drop (event c (drop done text)).used (drop done text)
     left = ap (λ (k : ℕ). drop (done + k) text) here.used ∙ sym (drop-drop (event c (drop done text)).used done text)
 
-    -- one event more
-    pub near_on : Nearing first text turn.console (done + turn.used)
-    near_on =
+    -- one event more, all of whose text has gone out
+    pub near_on : (sent'' : Option (List ℕ)) (k : ℕ) → turn.printed ≤ k → Appends sent' sent'' (take k (take turn.printed out)) → Nearing first text turn.console (done + turn.used) sent sent''
+    near_on sent'' k all went-out =
         let within : turn.used ≤ length (drop done text) = here.within in
         record {
           within = omega (arith, within, length-drop done text, h.within);
           printed = h.printed ++ (event c (drop done text)).printed;
           rest = h.rest ∙ rest_on c (drop done text) turn.console (drop (done + turn.used) text) here.console left here.goes h.printed;
+          gone = Appends-trans sent sent' sent'' h.printed _ h.gone (rw (take_all k (take turn.printed out) (omega (arith, length-take turn.printed out)), here.printed) at went-out);
         }
 
     pub near_less : todo turn.console (drop (done + turn.used) text) < todo c (drop done text)
     near_less = less c (drop done text) turn.console (drop (done + turn.used) text) here.console left here.goes
 
   -- the console waits
-  pub near_rest : (event c (take (length text - done) (drop done text))).waiting ≡ true → Rested first text c done
+  pub near_rest : (event c (take (length text - done) (drop done text))).waiting ≡ true → Rested first text c done sent sent'
   near_rest q =
       let w = rw (take_rest text done) at q in
-      record { printed = h.printed ++ []; rest = h.rest ∙ ap (after h.printed) (rests c (drop done text) w); waits = w; within = h.within }
+      let none : h.printed ++ [] ≡ h.printed = append-nil h.printed in
+      record {
+        printed = h.printed;
+        rest =
+            h.rest
+            ∙ ap (after h.printed) (rests c (drop done text) w)
+            ∙ ap (λ (v : List ℕ). record { printed = v; console = c; left = drop done text }) none;
+        waits = w;
+        within = h.within;
+        gone = h.gone;
+      }
 
 -- ---- the rest of the input moves to the front
 
@@ -124,23 +138,27 @@ unfolding progress
 stands_first c e = record { pieces = []; console = sym e; rest = refl }
 
 -- what is held, and the bytes that came after it
-module _ (n m done : ℕ) (before mid : List ℕ) (stays : take n mid ≡ take n before) where
+module _ (n more done : ℕ) (before mid : List ℕ) (stays : take n mid ≡ take n before) where
   piece : List ℕ
-  piece = drop n (take m mid)
+  piece = take more (drop n mid)
 
-  joined : n ≤ m → take n before ++ piece ≡ take m mid
+  joined : take n before ++ piece ≡ take (n + more) mid
   unfolding piece
-  joined on = ap (λ (l : List ℕ). l ++ drop n (take m mid)) (sym stays ∙ sym (take-take n m mid on)) ∙ take-append-drop n (take m mid)
+  joined = ap (λ (l : List ℕ). l ++ take more (drop n mid)) (sym stays) ∙ sym (take-add n more mid)
 
-  pub stands_on : (c r : Console) (left : List ℕ) → Standing c (take n before) → Rested c (take m mid) r done → n ≤ m → left ≡ drop done (take m mid) → Turned c (take n before) r left
-  stands_on c r left s h on e =
+  pub stands_on : (c r : Console) (left : List ℕ) (unread unread' sent sent' : Option (List ℕ)) → Standing c (take n before) → Consumes unread unread' (take more (drop n mid))
+      → Rested c (take (n + more) mid) r done sent sent' → left ≡ drop done (take (n + more) mid) → Turned c (take n before) r left unread unread' sent sent'
+  unfolding piece
+  stands_on c r left unread unread' sent sent' s came h e =
       let now = progress fresh_console [] s.pieces in
-      let next : at_rest c (take n before ++ piece) ≡ record { printed = h.printed; console = r; left = left } = rw (joined on, e) h.rest in
+      let next : at_rest c (take n before ++ piece) ≡ record { printed = h.printed; console = r; left = left } = rw (joined, e) h.rest in
       let onward : at_rest now.console (now.left ++ piece) ≡ record { printed = h.printed; console = r; left = left } = rw (s.console, s.rest) next in
       let all = progress_on fresh_console [] s.pieces piece ∙ ap (after now.printed) onward in
       record {
         piece = piece;
+        came = came;
         printed = h.printed;
+        gone = h.gone;
         rest = next;
         stands = record { pieces = s.pieces ++ (piece ∷ []); console = ap (λ (x : Settled). x.console) all; rest = ap (λ (x : Settled). x.left) all };
       }

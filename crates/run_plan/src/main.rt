@@ -27,7 +27,7 @@ fn answered(c: Console, text: &[u8], out: &mut [u8]) -> Option<Turn>
 
 // Events until the console waits, each printed before the next one: the console then, and how much of the text is done with.
 // Nothing where a write failed.
-#[tactic(auto, using(crate::specs::LoopLaws::near_on, crate::specs::LoopLaws::near_rest))]
+#[tactic(auto, using(crate::specs::LoopLaws::near_start, crate::specs::LoopLaws::near_rest))]
 fn settled<W: Write>(
     rt: &impl Eprint,
     output: &mut W,
@@ -36,7 +36,7 @@ fn settled<W: Write>(
     out: &mut [u8],
 ) -> Option<(Console, usize)>
     requires { run_room ≤ length out.old }
-    ensures { IfSome result (λ r. Rested first text.now r.0 r.1) }
+    ensures { IfSome result (λ r. Rested first text.now r.0 r.1 (W.contents output.old) (W.contents output.new)) }
 {
     let mut c = first;
     let mut done = 0;
@@ -94,7 +94,7 @@ impl Session {
     ) -> Option<()>
         requires standing { Standing self.old.console (take self.old.n self.old.held) }
         requires room { run_room ≤ length out.old }
-        ensures { IfSome result (λ _. Turned self.old.console (take self.old.n self.old.held) self.new.console (take self.new.n self.new.held)) }
+        ensures { IfSome result (λ _. Turned self.old.console (take self.old.n self.old.held) self.new.console (take self.new.n self.new.held) (R.remaining input.old) (R.remaining input.new) (W.contents output.old) (W.contents output.new)) }
     {
         let more = streams::read_after(rt, input, &mut self.held, self.n).ok()?;
         if more == 0 {

@@ -18,22 +18,22 @@ loop-job-init c =
 pub job-requires : goal.job-requires
 job-requires c =
     let p = c.args.p.now in
-    rw c.first-job-items.ensures (many_room job_text (jobs_of p) (heads p) c.args.out.now blank_job (jobs_room p c.args.out.now c.requires)
-    _ _ _ (rw c.first-job-items.ensures at c.loop-job-test.true) c.loop-job.invariant.place c.loop-job.invariant.written)
+    rw c.jobs_of-job-items.ensures.jobs (many_room job_text (jobs_of p) (heads p) c.args.out.now blank_job (jobs_room p c.args.out.now c.requires)
+    _ _ _ (rw c.jobs_of-job-items.ensures.jobs at c.loop-job-test.true) c.loop-job.invariant.place c.loop-job.invariant.written)
 
 pub loop-job-preserved : goal.loop-job-preserved
 loop-job-preserved c =
     let p = c.args.p.now in
     let x = many_more job_text (jobs_of p) (heads p) c.args.out.now blank_job (jobs_room p c.args.out.now c.requires)
-    _ _ _ (rw c.first-job-items.ensures at c.loop-job-test.true) c.loop-job.invariant.place c.loop-job.invariant.written
-    _ _ (rw c.first-job-items.ensures at c.job.ensures.place) (rw c.first-job-items.ensures at c.job.ensures.written) in
+    _ _ _ (rw c.jobs_of-job-items.ensures.jobs at c.loop-job-test.true) c.loop-job.invariant.place c.loop-job.invariant.written
+    _ _ (rw c.jobs_of-job-items.ensures.jobs at c.job.ensures.place) (rw c.jobs_of-job-items.ensures.jobs at c.job.ensures.written) in
     record { place = x.0; written = x.1; same_output = c.job.ensures.same_output ∙ c.loop-job.invariant.same_output }
 
 pub loop-name-init : goal.loop-name-init
 loop-name-init c =
     let p = c.args.p.now in
     let out = c.args.out.now in
-    let all = many_all job_text (jobs_of p) (heads p) out _ _ _ (rw c.first-job-items.ensures at c.loop-job-test.false) c.loop-job.invariant.place c.loop-job.invariant.written in
+    let all = many_all job_text (jobs_of p) (heads p) out _ _ _ (rw c.jobs_of-job-items.ensures.jobs at c.loop-job-test.false) c.loop-job.invariant.place c.loop-job.invariant.written in
     let x = many_none (number_line "slot=") (slots_of p) (heads p ++ flat_map job_text (jobs_of p)) out _ _ all.0 all.1 in
     record { place = x.0; written = x.1; same_output = refl }
 
@@ -42,8 +42,8 @@ loop-name-preserved c =
     let p = c.args.p.now in
     let out = c.args.out.now in
     let x = many_more (number_line "slot=") (slots_of p) (heads p ++ flat_map job_text (jobs_of p)) out 0 (slots_room p out c.requires)
-    _ _ _ (rw c.first-name-items.ensures at c.loop-name-test.true) c.loop-name.invariant.place c.loop-name.invariant.written
-    _ _ (rw c.first-name-items.ensures at c.line-in-loop-name.ensures.place) (rw c.first-name-items.ensures at c.line-in-loop-name.ensures.written) in
+    _ _ _ (rw c.slots_of-name-items.ensures.slots at c.loop-name-test.true) c.loop-name.invariant.place c.loop-name.invariant.written
+    _ _ (rw c.slots_of-name-items.ensures.slots at c.line-in-loop-name.ensures.place) (rw c.slots_of-name-items.ensures.slots at c.line-in-loop-name.ensures.written) in
     record { place = x.0; written = x.1; same_output = c.line-in-loop-name.ensures.same_output ∙ c.loop-name.invariant.same_output }
 
 pub returns-clause-value : goal.returns-clause-value
@@ -51,7 +51,7 @@ returns-clause-value c =
     let p = c.args.p.now in
     let out = c.args.out.now in
     let all = many_all (number_line "slot=") (slots_of p) (heads p ++ flat_map job_text (jobs_of p)) out
-    _ _ _ (rw c.first-name-items.ensures at c.loop-name-test.false) c.loop-name.invariant.place c.loop-name.invariant.written in
+    _ _ _ (rw c.slots_of-name-items.ensures.slots at c.loop-name-test.false) c.loop-name.invariant.place c.loop-name.invariant.written in
     (plan_written p out c.requires _ _ all.0 all.1).0
 
 pub returns-clause-out_after : goal.returns-clause-out_after
@@ -59,7 +59,7 @@ returns-clause-out_after c =
     let p = c.args.p.now in
     let out = c.args.out.now in
     let all = many_all (number_line "slot=") (slots_of p) (heads p ++ flat_map job_text (jobs_of p)) out
-    _ _ _ (rw c.first-name-items.ensures at c.loop-name-test.false) c.loop-name.invariant.place c.loop-name.invariant.written in
+    _ _ _ (rw c.slots_of-name-items.ensures.slots at c.loop-name-test.false) c.loop-name.invariant.place c.loop-name.invariant.written in
     let x = (plan_written p out c.requires _ _ all.0 all.1).1 in
     let n = c.loop-name.invariant.same_output ∙ c.loop-job.invariant.same_output ∙ c.line-2.ensures.same_output ∙ c.line.ensures.same_output in
     grind (arith, x, n)

@@ -3,34 +3,29 @@ use Rattle.std.proofs.Common.{◌+◌, ◌*◌, ◌<◌, length, arith, rules}
 use Rattle.std.proofs.lemmas.Iterator.{YieldsList-from_slice, YieldsList-from_map}
 use Rattle.std.proofs.lemmas.Iterator.Adapters.{fits_from_length, at_most_from_yields_List}
 use Rattle.std.proofs.lemmas.Iterator.Consumers.{sum_by_from_yields_List}
-use Rattle.words.specs.ListLaws.{long}
 use Rattle.lines.specs.Lines.{number_line}
 use Rattle.plan.specs.Limits.{max_slots, max_jobs}
 use Rattle.plan.specs.Plan.{jobs_of, slots_of}
 use Rattle.plan_text.specs.Read.{job_text}
-use Rattle.plan_text.specs.WriterLaws.{first_few, text_length}
+use Rattle.plan_text.specs.WriterLaws.{text_length}
 use Rattle.plan_text.proofs.writer.text_len.Goals as goal
 
 pub sum-jobs-requires-clause-fits : goal.sum-jobs-requires-clause-fits
 sum-jobs-requires-clause-fits c =
-    let few = first_few c.first.result.now c.args.p.now.job _ max_jobs c.first.ensures (search (rules, long)) in
     fits_from_length _ _ max_jobs _ (at_most_from_yields_List (YieldsList-from_slice c.iter.result.rest.now cc) (grind arith)) c.map.ensures.closure (omega arith) (λ x r q k. search rules)
 
 pub sum-slots-requires-clause-fits : goal.sum-slots-requires-clause-fits
 sum-slots-requires-clause-fits c =
-    let few = first_few c.first-2.result.now c.args.p.now.table _ max_slots c.first-2.ensures (search (rules, long)) in
     fits_from_length _ _ max_slots _ (at_most_from_yields_List (YieldsList-from_slice c.iter-2.result.rest.now cc) (grind arith)) c.map-2.ensures.closure (omega arith) (λ x r q k. search rules)
 
 jobs_small : (c : goal.After-digit_count-2) → c.sum-jobs.result < 56 * max_jobs + 1
 jobs_small c =
-    let few = first_few c.first.result.now c.args.p.now.job _ max_jobs c.first.ensures (search (rules, long)) in
     let p = c.sum-jobs.ensures.runs tt in
     let h = fits_from_length _ _ max_jobs (56 * max_jobs + 1) (at_most_from_yields_List (YieldsList-from_slice c.iter.result.rest.now cc) (grind arith)) c.map.ensures.closure (omega arith) (λ x r q k. search rules) p.0 p.0.seen p.1 in
     rw p.3 h
 
 slots_small : (c : goal.After-digit_count-2) → c.sum-slots.result < 11 * max_slots + 1
 slots_small c =
-    let few = first_few c.first-2.result.now c.args.p.now.table _ max_slots c.first-2.ensures (search (rules, long)) in
     let p = c.sum-slots.ensures.runs tt in
     let h = fits_from_length _ _ max_slots (11 * max_slots + 1) (at_most_from_yields_List (YieldsList-from_slice c.iter-2.result.rest.now cc) (grind arith)) c.map-2.ensures.closure (omega arith) (λ x r q k. search rules) p.0 p.0.seen p.1 in
     rw p.3 h

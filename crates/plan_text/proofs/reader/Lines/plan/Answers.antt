@@ -1,6 +1,6 @@
 -- `Lines::plan`: the lines of a plan one after the other; the first that is refused is the answer.
-use Rattle.std.specs.Prelude.{◌≡◌, ◌+◌, ◌*◌, is_ok, ◌≤◌, List, ℕ, length}
-use Rattle.std.proofs.Common.{arith, refl, sym, ap, ◌∙◌}
+use Rattle.std.specs.Prelude.{◌+◌, ◌*◌, is_ok, ◌≤◌, List, ℕ}
+use Rattle.std.proofs.Common.{arith, sym, ap, ◌∙◌}
 use Rattle.std.proofs.lemmas.Result.{err_from_is_err_and}
 use Rattle.answers.specs.Answer.{accepted}
 use Rattle.plan.specs.declared.Job.{Job}
@@ -10,7 +10,7 @@ use Rattle.plan.specs.Plan.{blank_job}
 use Rattle.words.specs.Words.{filled}
 use Rattle.lines.specs.Lines.{Reader, give, ◌>>=◌, many, number, field}
 use Rattle.plan_text.specs.Read.{next_job, next_plan}
-use Rattle.plan_text.specs.Reader.{Reads, plan_lines, many_filled}
+use Rattle.plan_text.specs.Reader.{plan_lines}
 use Rattle.plan_text.specs.RoundLaws.{one_to_lem, limit_slots, limit_jobs}
 use Rattle.plan_text.specs.ReaderLaws.{wider, must_reads, goes_on, stops, array_goes_on, array_stops, given}
 use Rattle.plan_text.proofs.reader.Lines.plan.Goals as goal
