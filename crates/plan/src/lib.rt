@@ -84,7 +84,7 @@ pub fn first_jobs(job: &[Job; JOBS], n: u16) -> &[Job]
     &job[..JOBS.min(usize::from(n))]
 }
 
-// The plan's jobs; of a record whose n is larger than its array all that it has.
+// The jobs of a plan; of a record with a larger n all that it has.
 pub fn jobs_of(p: &Plan) -> &[Job]
     ensures jobs { result.now ≡ jobs_of p.now }
     ensures few { length result.now ≤ max_jobs }
