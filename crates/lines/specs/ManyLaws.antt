@@ -1,15 +1,15 @@
 -- The loop that reads things of one kind into an array, once for every kind of thing, array size and blank value.
 -- A loop's invariant is `Filling`; its laws are the start, one thing more, a refusal, and the end.
-use Rattle.std.specs.Prelude.{◌≡◌, false, List, [], ◌∷◌, ◌++◌, ℕ, suc, ◌+◌, ◌-◌, ◌*◌, ◌≤◌, ◌<◌, length, take, drop, set, replicate}
+use Rattle.std.specs.Prelude.{◌≡◌, List, [], ◌∷◌, ◌++◌, ℕ, suc, ◌+◌, ◌-◌, ◌≤◌, ◌<◌, length, take, drop, set, replicate}
 use Rattle.std.proofs.Math.Path.{refl}
-use Rattle.std.proofs.Common.{sym, ap, ◌∙◌, append-nil, add-zero, mul-zero, mul-suc, add-one, arith, take-append-drop, length-set, take-suc-set, drop-set-lt, drop-drop, length-take-le}
+use Rattle.std.proofs.Common.{sym, ap, ◌∙◌, append-nil, add-one, arith, take-append-drop, length-set, take-suc-set, drop-set-lt, drop-drop, length-take-le}
 use Rattle.std.proofs.Math.Nat.{sub-zero}
 use Rattle.std.proofs.lemmas.List.{length-replicate}
 use Rattle.std.proofs.Math.Seq.{append_snoc}
-use Rattle.answers.specs.Answer.{Answer, Accepted, accepted}
+use Rattle.answers.specs.Answer.{Answer}
 use Rattle.words.specs.Words.{filled}
 use Rattle.lines.specs.Lines.{Cursor, Read, got, refused, Reader, give, onward, many}
-use Rattle.lines.specs.Reading.{standing, filled_read, ArrayHere}
+use Rattle.lines.specs.Reading.{filled_read}
 
 module _ {A : Type 0} where
   -- the things that were read before, in front
@@ -95,52 +95,3 @@ module _ {A : Type 0} where
           let n : length (take i array) ≡ i = length-take-le i array (omega (arith, inv.long, inv.low)) in
           let whole : filled size blank (take i array) ≡ array = rw (n, ← inv.blanks) (take-append-drop i array) in
           rw (inv.read, none, many_end here, append-nil, whole)
-
--- ---- the same by place: things of `step` lines each, from place `at` and line `line` of a text on
-
-module _ {A : Type 0} (one : Reader A) (step size : ℕ) (blank : A) (count : ℕ) (t : List ℕ) (at line : ℕ) where
-  -- what holds at the loop's head, with the reader's place and line
-  pub record FillingAt (array : List A) (next l i : ℕ) : Type 0 where
-    pub filling : Filling one size blank count (standing t at line) array (standing t next l) i
-    pub lines : l ≡ line + step * i
-    pub within : next ≤ length t
-
-  pub filling_at_starts : at ≤ length t → FillingAt (replicate size blank) at line 0
-  filling_at_starts h =
-      record {
-        filling = filling_starts one size blank count (standing t at line);
-        lines = sym (ap (λ (k : ℕ). line + k) (mul-zero step) ∙ add-zero line);
-        within = h;
-      }
-
-  module _ (few : count ≤ size) (array : List A) (next l i : ℕ) (inv : FillingAt array next l i) where
-    pub filling_at_on : i < count → (x : A) (after : ℕ) → after ≤ length t
-        → one (standing t next l) ≡ got x (standing t after (l + step)) → FillingAt (set array i x) after (l + step) (i + 1)
-    filling_at_on h x after w e =
-        let more : step * (i + 1) ≡ step * i + step = rw add-one (mul-suc step i) in
-        record {
-          filling =
-              filling_on one size blank count (standing t at line) few array (standing t next l) i inv.filling
-              x (standing t after (l + step)) h e;
-          lines = omega (arith, inv.lines, more);
-          within = w;
-        }
-
-    pub filling_at_stops : i < count → (answer : Answer) → accepted answer ≡ false → one (standing t next l) ≡ refused answer
-        → ArrayHere t (line + step * count) answer array 0 (filled_read size blank (many count one (standing t at line)))
-    filling_at_stops h answer refuses e =
-        record {
-          read = rw refuses (sym (filling_stops one size blank count (standing t at line) few array (standing t next l) i inv.filling answer h e));
-          within = omega arith;
-        }
-
-    pub filling_at_ends : count ≤ i
-        → ArrayHere t (line + step * count) Accepted array next (filled_read size blank (many count one (standing t at line)))
-    unfolding accepted
-    filling_at_ends h =
-        let all : i ≡ count = omega (arith, inv.filling.low) in
-        let m : l ≡ line + step * count = rw (← all) inv.lines in
-        record {
-          read = rw (← m) (sym (filling_ends one size blank count (standing t at line) few array (standing t next l) i inv.filling h));
-          within = inv.within;
-        }

@@ -1,7 +1,6 @@
 -- What the reading functions answer, by place: where a value stands in a text, and the number on a line.
 -- The text from place `at` on is `drop at text`; its next line starts at `line_after text at`.
-use Rattle.std.specs.Prelude.{ℕ, ◌+◌, ◌-◌, ◌≤◌, ◌≡◌, ◌&&◌, List, length, take, drop, Option, Some, None, option_map, if◌then◌else◌}
-use Rattle.answers.specs.Answer.{Answer, accepted}
+use Rattle.std.specs.Prelude.{ℕ, ◌+◌, ◌-◌, ◌&&◌, List, length, take, drop, Option, Some, None, option_map, if◌then◌else◌}
 use Rattle.words.specs.Words.{◌<?◌, filled}
 use Rattle.lines.specs.Lines.{Cursor, Read, got, refused, Reader, line_length, begins, value_in, or_form}
 use Rattle.lines.specs.declared.reading.ValueAt.{ValueAt}
@@ -40,12 +39,3 @@ standing text at l = record { line_no = l; text = drop at text }
 abbrev pub filled_read : {A : Type 0} → ℕ → A → Read (List A) → Read (List A)
 filled_read size blank (got xs here) = got (filled size blank xs) here
 filled_read size blank (refused answer) = refused answer
-
--- what is read where an answer, an array beside it and the next place are so, line m after it
-abbrev pub array_read : {A : Type 0} → List ℕ → ℕ → Answer → List A → ℕ → Read (List A)
-array_read text m answer array next = if accepted answer then got array (standing text next m) else refused answer
-
--- an answer, an array and the next place, which lies in the text, say what is read
-pub record ArrayHere {A : Type 0} (text : List ℕ) (m : ℕ) (answer : Answer) (array : List A) (next : ℕ) (r : Read (List A)) : Type 0 where
-  pub read : array_read text m answer array next ≡ r
-  pub within : next ≤ length text
