@@ -2,7 +2,7 @@
 use Rattle.std.specs.Prelude.{ℕ, List, [], ◌∷◌, get_or, if◌then◌else◌, Result, Ok, Err}
 use Rattle.words.specs.Words.{◌=?◌}
 use Rattle.answers.specs.declared.Refusal.{Refusal}
-use Rattle.answers.specs.Answer.{Answer, Accepted, places_of, accepted, ◌and_then◌}
+use Rattle.answers.specs.Answer.{Answer, Accepted, places_of, ◌and_then◌}
 use Rattle.plan_text.specs.Read.{read_plan}
 use Rattle.acceptance.specs.Analysis.{analysis}
 use Rattle.executive.specs.declared.Run.{Run}

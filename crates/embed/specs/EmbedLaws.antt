@@ -1,14 +1,12 @@
 -- Laws of the host's functions, one for each way out: the reader's refusal, the start's, and the reports one after another.
-use Rattle.std.specs.Prelude.{ℕ, ◌+◌, ◌≤◌, ◌<◌, Bool, true, false, not, List, ◌≡◌, length, drop, get_or, Result}
+use Rattle.std.specs.Prelude.{ℕ, ◌+◌, ◌≤◌, ◌<◌, List, ◌≡◌, length, drop, get_or, Ok, Err}
 use Rattle.std.proofs.Math.Numerals.{add-one}
-use Rattle.std.proofs.Math.Path.{refl}
-use Rattle.std.proofs.Common.{ap, ◌∙◌, drop_of_length-le, drop-cons}
+use Rattle.std.proofs.Common.{◌∙◌, drop_of_length-le, drop-cons}
 use Rattle.answers.specs.declared.Refusal.{Refusal}
-use Rattle.answers.specs.Answer.{Answer, Accepted, accepted}
+use Rattle.answers.specs.Answer.{Accepted}
 use Rattle.plan_text.specs.declared.PlanRead.{PlanRead}
 use Rattle.plan_text.specs.Read.{read_plan}
-use Rattle.plan_text.specs.Write.{write_answer, write_out}
-use Rattle.answers.specs.AnswerLaws.{passes, refuses}
+use Rattle.answers.specs.AnswerLaws.{goes_on, stops}
 use Rattle.acceptance.specs.declared.Analysis.{Analysis}
 use Rattle.acceptance.specs.Analysis.{analysis}
 use Rattle.executive.specs.declared.Run.{Run}
@@ -17,38 +15,32 @@ use Rattle.executive.specs.declared.Started.{Started}
 use Rattle.executive.specs.declared.Stepped.{Stepped}
 use Rattle.executive.specs.Run.{start}
 use Rattle.executive.specs.Step.{step}
-use Rattle.embed.specs.Embed.{bytes_written, analysed, kind_of, walk_from, walked}
+use Rattle.embed.specs.Embed.{analysed, kind_of, walk_from, walked}
 
--- what the writer makes of the plan that was read
-pub written_again : (text out left : List ℕ) (read : PlanRead) (answer : Result ℕ Refusal) (n : ℕ) → read ≡ read_plan text
-    → answer ≡ write_answer read.plan (length out) → left ≡ write_out read.plan out → n ≡ bytes_written answer
-    → (n ≡ bytes_written (write_answer (read_plan text).plan (length out))) × (left ≡ write_out (read_plan text).plan out)
-written_again text out left read answer n er ea el en = rw (← er) (en ∙ ap bytes_written ea, el)
-
-module _ (text : List ℕ) (read : PlanRead) (ok : Bool) (er : read ≡ read_plan text) (eo : ok ≡ accepted read.answer) where
+module _ (text : List ℕ) (read : PlanRead) (er : read ≡ read_plan text) where
   -- the reader refuses: that is the answer
-  pub analysis_unread : not ok ≡ true → read.answer ≡ analysed text
+  pub analysis_unread : (e : Refusal) → read.answer ≡ Err e → Err e ≡ analysed text
   unfolding analysed
-  analysis_unread h = rw (← er) (refuses _ _ read.answer ok refl eo h)
+  analysis_unread e h = rw (← er) (stops read.answer _ e h)
 
-  pub walk_unread : (kinds : List ℕ) → not ok ≡ true → read.answer ≡ walked text kinds
+  pub walk_unread : (kinds : List ℕ) (e : Refusal) → read.answer ≡ Err e → Err e ≡ walked text kinds
   unfolding walked
-  walk_unread kinds h = rw (← er) (refuses _ _ read.answer ok refl eo h)
+  walk_unread kinds e h = rw (← er) (stops read.answer _ e h)
 
-  module _ (h : not ok ≡ false) where
+  module _ (u : Unit {0}) (h : read.answer ≡ Ok u) where
     pub analysis_made : (a : Analysis) → a ≡ analysis read.plan → a.answer ≡ analysed text
     unfolding analysed
-    analysis_made a ea = rw (← er, ← ea) (passes _ _ read.answer ok refl eo h)
+    analysis_made a ea = rw (← er, ← ea) (goes_on read.answer _ h)
 
-    module _ (kinds : List ℕ) (started : Started) (begun : Bool) (es : started ≡ start read.plan) (eb : begun ≡ accepted started.answer) where
+    module _ (kinds : List ℕ) (started : Started) (es : started ≡ start read.plan) where
       -- the plan is not accepted
-      pub walk_unstarted : not begun ≡ true → started.answer ≡ walked text kinds
+      pub walk_unstarted : (e : Refusal) → started.answer ≡ Err e → Err e ≡ walked text kinds
       unfolding walked
-      walk_unstarted g = rw (← er, ← es) (refuses _ _ started.answer begun refl eb g ∙ passes _ _ read.answer ok refl eo h)
+      walk_unstarted e g = rw (← er, ← es) (stops started.answer _ e g ∙ goes_on read.answer _ h)
 
-      pub walk_started : not begun ≡ false → walk_from started.run kinds ≡ walked text kinds
+      pub walk_started : (v : Unit {0}) → started.answer ≡ Ok v → walk_from started.run kinds ≡ walked text kinds
       unfolding walked
-      walk_started g = rw (← er, ← es) (passes _ _ started.answer begun refl eb g ∙ passes _ _ read.answer ok refl eo h)
+      walk_started v g = rw (← er, ← es) (goes_on started.answer _ g ∙ goes_on read.answer _ h)
 
 -- no kind is left
 pub walk_end : (r : Run) (kinds : List ℕ) (i : ℕ) → length kinds ≤ i → Accepted ≡ walk_from r (drop i kinds)
@@ -56,13 +48,13 @@ unfolding walk_from
 walk_end r kinds i h = rw (drop_of_length-le kinds h)
 
 module _ (r : Run) (kinds : List ℕ) (i : ℕ) (h : i < length kinds) (kind : Kind) (ek : kind ≡ kind_of (get_or kinds i 0))
-    (stepped : Stepped) (ok : Bool) (es : stepped ≡ step r (record { slot = r.t; kind = kind })) (eo : ok ≡ accepted stepped.answer) where
+    (stepped : Stepped) (es : stepped ≡ step r (record { slot = r.t; kind = kind })) where
   -- the report of kind i is accepted: the answer from here is the answer from the next on
-  pub walk_on : not ok ≡ false → walk_from stepped.run (drop (i + 1) kinds) ≡ walk_from r (drop i kinds)
+  pub walk_on : (u : Unit {0}) → stepped.answer ≡ Ok u → walk_from stepped.run (drop (i + 1) kinds) ≡ walk_from r (drop i kinds)
   unfolding walk_from
-  walk_on g = rw (drop-cons kinds i 0 h, ← ek, ← es, add-one i) (passes _ _ stepped.answer ok refl eo g)
+  walk_on u g = rw (drop-cons kinds i 0 h, ← ek, ← es, add-one i) (goes_on stepped.answer _ g)
 
   -- it is refused: that is the answer
-  pub walk_refused : not ok ≡ true → stepped.answer ≡ walk_from r (drop i kinds)
+  pub walk_refused : (e : Refusal) → stepped.answer ≡ Err e → Err e ≡ walk_from r (drop i kinds)
   unfolding walk_from
-  walk_refused g = rw (drop-cons kinds i 0 h, ← ek, ← es) (refuses _ _ stepped.answer ok refl eo g)
+  walk_refused e g = rw (drop-cons kinds i 0 h, ← ek, ← es) (stops stepped.answer _ e g)

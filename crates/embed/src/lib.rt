@@ -11,7 +11,7 @@ ghost use Rattle.lines.specs.Writing.{put_fit, place_after};
 ghost use Rattle.console.specs.Lists.{check_length, check_written};
 ghost use Rattle.console.specs.Run.{run_output};
 
-use answers::{Answer, Refusal};
+use answers::Answer;
 use entries::Kind;
 use executive::{Report, Run};
 
@@ -22,9 +22,7 @@ fn told(answer: Answer, places: &mut [usize; 2]) -> u16
     ensures value { result ≡ number_of answer }
     ensures places_after { places.new ≡ both_places answer }
 {
-    let first = answers::first_place(answer);
-    let second = answers::second_place(answer);
-    *places = [first, second];
+    *places = [answers::first_place(answer), answers::second_place(answer)];
     answers::number_of(answer)
 }
 
@@ -33,37 +31,27 @@ pub fn embed_read(text: &[u8], places: &mut [usize; 2]) -> u16
     ensures value { result ≡ number_of (read_plan text.now).answer }
     ensures places_after { places.new ≡ both_places (read_plan text.now).answer }
 {
-    let read = plan_text::reader::read_plan(text);
-    let answer = read.answer;
-    told(answer, places)
-}
-
-fn bytes_written(answer: Result<usize, Refusal>) -> usize
-    ensures { result ≡ bytes_written answer }
-{
-    answer.unwrap_or(0)
+    told(plan_text::reader::read_plan(text).answer, places)
 }
 
 // Reads a plan and writes it at the start of `out`: the bytes written. A refused text has the blank plan, which the
 // writer refuses; a refusal answers 0 and leaves the output as it was.
+#[tactic(auto, unfolding(crate::specs::Embed::bytes_written))]
 pub fn embed_write(text: &[u8], out: &mut [u8]) -> usize
     ensures value { result ≡ bytes_written (write_answer (read_plan text.now).plan (length out.old)) }
     ensures out_after { out.new ≡ write_out (read_plan text.now).plan out.old }
 {
-    let read = plan_text::reader::read_plan(text);
-    let p = read.plan;
-    let answer = plan_text::writer::write_plan(p, out);
-    bytes_written(answer)
+    let plan = plan_text::reader::read_plan(text).plan;
+    plan_text::writer::write_plan(plan, out).unwrap_or(0)
 }
 
+#[tactic(auto, using(crate::specs::EmbedLaws::analysis_unread, crate::specs::EmbedLaws::analysis_made))]
 fn analysed(text: &[u8]) -> Answer
     ensures { result ≡ analysed text.now }
 {
     let read = plan_text::reader::read_plan(text);
     read.answer?;
-    let p = read.plan;
-    let analysis = acceptance::analysis_of(p);
-    analysis.answer
+    acceptance::analysis_of(read.plan).answer
 }
 
 // Reads a plan and analyses it: the first refusal's number and places, 0 where both accept.
@@ -74,47 +62,43 @@ pub fn embed_analyse(text: &[u8], places: &mut [usize; 2]) -> u16
     told(analysed(text), places)
 }
 
+#[tactic(auto, unfolding(crate::specs::Embed::kind_of))]
 fn kind_of(byte: u8) -> Kind
     ensures { result ≡ kind_of byte }
 {
-    if byte == 0 {
-        return Kind::None;
+    match byte {
+        0 => Kind::None,
+        1 => Kind::End,
+        _ => Kind::More,
     }
-    if byte == 1 {
-        return Kind::End;
-    }
-    Kind::More
 }
 
 // The first refusal of a report of each kind in turn, each for slot t.
+#[tactic(auto, using(crate::specs::EmbedLaws::walk_on, crate::specs::EmbedLaws::walk_refused, crate::specs::EmbedLaws::walk_end))]
 fn walk_from(run: Run, kinds: &[u8]) -> Answer
     ensures { result ≡ walk_from run kinds.now }
 {
     let mut here = run;
-    let mut i = 0;
-    while i < kinds.len() {
-        let kind = kind_of(kinds[i]);
+    for byte in kinds {
         let stepped = here.step(Report {
             slot: here.t,
-            kind: kind,
+            kind: kind_of(*byte),
         });
         stepped.answer?;
         here = stepped.run;
-        i += 1;
     }
     Ok(())
 }
 
+#[tactic(auto, using(crate::specs::EmbedLaws::walk_unread, crate::specs::EmbedLaws::walk_unstarted, crate::specs::EmbedLaws::walk_started))]
 fn walked(text: &[u8], kinds: &[u8]) -> Answer
     ensures { result ≡ walked text.now kinds.now }
 {
     let read = plan_text::reader::read_plan(text);
     read.answer?;
-    let p = read.plan;
-    let started = executive::start(p);
+    let started = executive::start(read.plan);
     started.answer?;
-    let run = started.run;
-    walk_from(run, kinds)
+    walk_from(started.run, kinds)
 }
 
 // Reads a plan, starts it, and reports once for each kind, for slot t: the first refusal's number and places, else 0.

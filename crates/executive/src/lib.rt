@@ -124,8 +124,7 @@ impl Run {
     fn jobs(&self) -> &[Job]
         ensures { result.now ≡ jobs_of self.now.plan }
     {
-        let all: &[Job] = &self.plan.job;
-        &all[..usize::from(self.plan.jobs).min(all.len())]
+        plan::first_jobs(&self.plan.job, self.plan.jobs)
     }
 
     // Every clause of coherence holds of the record.

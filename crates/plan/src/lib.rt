@@ -40,13 +40,6 @@ pub struct Plan {
     pub table: [u16; SLOTS],
 }
 
-// A number as an index.
-pub fn wide(x: u16) -> usize
-    ensures { (result ≡ x) × (result < 65536) }
-{
-    usize::from(x)
-}
-
 pub fn is_hi(j: Job) -> bool
     ensures { result ≡ is_hi j }
 {
@@ -149,9 +142,7 @@ fn every_window(jobs: &[Job], slots: u16) -> bool
 pub fn windows_hold(p: Plan) -> bool
     ensures { result ≡ windows_hold p }
 {
-    one_to(SLOTS, p.slots)
-        && one_to(JOBS, p.jobs)
-        && every_window(first_jobs(&p.job, p.jobs), p.slots)
+    one_to(SLOTS, p.slots) && one_to(JOBS, p.jobs) && every_window(jobs_of(&p), p.slots)
 }
 
 // The counts with one more for job k.

@@ -57,7 +57,7 @@ fn numbers_fit(p: &Plan) -> Answer
     four_digits(1, p.slots)?;
     four_digits(2, p.jobs)?;
     let mut line = 3;
-    for job in plan::jobs_of(p) {
+    for job in plan::first_jobs(&p.job, p.jobs) {
         job_fits(line, job)?;
         line += 5;
     }
@@ -103,7 +103,7 @@ fn slot_len(name: &u16) -> usize
 fn text_len(p: &Plan) -> usize
     ensures { result ≡ length (plan_text p.now) }
 {
-    let jobs: usize = plan::jobs_of(p).iter().map(job_len).sum();
+    let jobs: usize = plan::first_jobs(&p.job, p.jobs).iter().map(job_len).sum();
     let slots: usize = slots_of(p).iter().map(slot_len).sum();
     13 + digit_count(p.slots) + digit_count(p.jobs) + jobs + slots
 }
@@ -156,7 +156,7 @@ fn put_plan(out: &mut [u8], p: &Plan) -> usize
     let mut sheet = Sheet { out, at: 0 };
     sheet.line(b"slots=", p.slots);
     sheet.line(b"jobs=", p.jobs);
-    for job in plan::jobs_of(p) {
+    for job in plan::first_jobs(&p.job, p.jobs) {
         sheet.job(job);
     }
     for name in slots_of(p) {

@@ -33,7 +33,7 @@ fn refused<R: Fn(u16) -> Refusal>(place: Option<usize>, refusal: R) -> Answer
 fn check4(p: &Plan) -> Answer
     ensures { result ≡ check4 p.now }
 {
-    let jobs = plan::first_jobs(&p.job, p.jobs);
+    let jobs = plan::jobs_of(p);
     refused(
         jobs.iter().position(|j| !plan::window_holds(p.slots, *j)),
         Refusal::Window,
@@ -44,7 +44,7 @@ fn check4(p: &Plan) -> Answer
 fn check5(p: &Plan) -> Answer
     ensures { result ≡ check5 p.now }
 {
-    let jobs = plan::first_jobs(&p.job, p.jobs);
+    let jobs = plan::jobs_of(p);
     refused(
         jobs.iter().position(|j| !plan::budget_holds(p.slots, *j)),
         Refusal::Budget,
@@ -85,7 +85,7 @@ fn check6(p: &Plan) -> Result<Scanned, Refusal>
     requires { (p.now.slots ≤ max_slots) × (p.now.jobs ≤ max_jobs) }
     ensures { MatchResult result (λ s. (check6 p.now ≡ Accepted) × (s.counts ≡ counts_at p.now p.now.slots) × (s.runs ≡ runs_from 0 no_runs (slots_of p.now))) (λ e. check6 p.now ≡ Err e) }
 {
-    let jobs = plan::first_jobs(&p.job, p.jobs);
+    let jobs = plan::jobs_of(p);
     let mut counts = [0; plan::JOBS];
     let mut runs = [0; plan::JOBS];
     let mut before = 0;
@@ -105,7 +105,7 @@ fn check6(p: &Plan) -> Result<Scanned, Refusal>
 fn check7(p: &Plan, counts: [u16; plan::JOBS]) -> Answer
     ensures { counts ≡ counts_at p.now p.now.slots → result ≡ check7 p.now }
 {
-    let jobs = plan::first_jobs(&p.job, p.jobs);
+    let jobs = plan::jobs_of(p);
     refused(
         jobs.iter()
             .zip(counts.iter())
@@ -119,7 +119,7 @@ fn check17(p: &Plan, runs: [u16; plan::JOBS]) -> Answer
     requires { p.now.slots ≤ max_slots }
     ensures { runs ≡ runs_from 0 no_runs (slots_of p.now) → result ≡ check17 p.now }
 {
-    let runs = &runs[..plan::first_jobs(&p.job, p.jobs).len()];
+    let runs = &runs[..plan::jobs_of(p).len()];
     refused(runs.iter().position(|n| MAX_RUNS < *n), Refusal::Chopped)
 }
 

@@ -16,8 +16,8 @@ use Rattle.well_formed.proofs.check17.Goals as goal
 
 pub returns : goal.returns
 returns c e =
-    let jobs : c.first_jobs.result.now ≡ jobs_of c.args.p.now = c.first_jobs.ensures.all in
-    let few : length (jobs_of c.args.p.now) ≤ max_jobs = rw jobs at c.first_jobs.ensures.few in
+    let jobs : c.jobs_of.result.now ≡ jobs_of c.args.p.now = c.jobs_of.ensures.jobs in
+    let few : length (jobs_of c.args.p.now) ≤ max_jobs = rw jobs at c.jobs_of.ensures.few in
     told_at Refusal.Chopped (λ (n : ℕ). n ≤? max_runs) _ (λ i e k. search rules) (take (length (jobs_of c.args.p.now)) c.args.runs) c.position.result _
     (position_from_yields_List (λ (n : ℕ). not (n ≤? max_runs)) _ _ c.position.result c.position.ensures.ran (YieldsList-from_slice (take (length (jobs_of c.args.p.now)) c.args.runs) cc) (λ x b q k. search (rules, tests)))
     c.refused.ensures

@@ -13,7 +13,7 @@ use Rattle.well_formed.proofs.check4.Goals as goal
 pub returns : goal.returns
 unfolding check4
 returns c =
-    rw (← c.first_jobs-jobs.ensures.all)
-    (told_at Refusal.Window (window_holds c.args.p.now.slots) _ (λ i e k. search rules) c.first_jobs-jobs.result.now c.position.result _
-    (position_from_yields_List (λ j. not (window_holds c.args.p.now.slots j)) _ _ c.position.result c.position.ensures.ran (YieldsList-from_slice c.first_jobs-jobs.result.now cc) (λ x b q k. search (rules, tests)))
+    rw (← c.jobs_of-jobs.ensures.jobs)
+    (told_at Refusal.Window (window_holds c.args.p.now.slots) _ (λ i e k. search rules) c.jobs_of-jobs.result.now c.position.result _
+    (position_from_yields_List (λ j. not (window_holds c.args.p.now.slots j)) _ _ c.position.result c.position.ensures.ran (YieldsList-from_slice c.jobs_of-jobs.result.now cc) (λ x b q k. search (rules, tests)))
     c.refused.ensures)

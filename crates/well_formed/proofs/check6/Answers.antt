@@ -65,8 +65,8 @@ unfolding check6
 returns-then-not-entry_holds c =
     let p = c.args.p.now in
     let t = c.loop-t.t in
-    let h : Turn c.args.p.now c.loop-t.t c.from.result c.first_jobs-jobs.result.now =
-    record { place = c.from.ensures; jobs = c.first_jobs-jobs.ensures.all; all_jobs = search (rules, long); all_slots = search rules; limits = c.requires; one_left = c.loop-t-test.true }
+    let h : Turn c.args.p.now c.loop-t.t c.from.result c.jobs_of-jobs.result.now =
+    record { place = c.from.ensures; jobs = c.jobs_of-jobs.ensures.jobs; all_jobs = search (rules, long); all_slots = search rules; limits = c.requires; one_left = c.loop-t-test.true }
     in
     sym
     (slice_breaks (λ s k. Refusal.TableSlot s) (slot_holds p) (slots_of p) t t 0 (within _ _ _ _ h) (tested _ _ _ _ h _ c.entry_holds.ensures ∙ c.if-not-entry_holds.true)
@@ -76,8 +76,8 @@ pub loop-t-preserved : goal.loop-t-preserved
 loop-t-preserved c =
     let p = c.args.p.now in
     let t = c.loop-t.t in
-    let h : Turn c.args.p.now c.loop-t.t c.from.result c.first_jobs-jobs.result.now =
-    record { place = c.from.ensures; jobs = c.first_jobs-jobs.ensures.all; all_jobs = search (rules, long); all_slots = search rules; limits = c.requires; one_left = c.loop-t-test.true }
+    let h : Turn c.args.p.now c.loop-t.t c.from.result c.jobs_of-jobs.result.now =
+    record { place = c.from.ensures; jobs = c.jobs_of-jobs.ensures.jobs; all_jobs = search (rules, long); all_slots = search rules; limits = c.requires; one_left = c.loop-t-test.true }
     in
     record {
       counted = c.count_slot.ensures ∙ counts_next _ _ _ _ h _ c.loop-t.invariant.counted;

@@ -28,8 +28,8 @@ beside counts i (j ∷ jobs) l =
 
 pub returns : goal.returns
 returns c e =
-    let jobs : c.first_jobs-jobs.result.now ≡ jobs_of c.args.p.now = c.first_jobs-jobs.ensures.all in
-    let few : length (jobs_of c.args.p.now) ≤ max_jobs = rw jobs at c.first_jobs-jobs.ensures.few in
+    let jobs : c.jobs_of-jobs.result.now ≡ jobs_of c.args.p.now = c.jobs_of-jobs.ensures.jobs in
+    let few : length (jobs_of c.args.p.now) ≤ max_jobs = rw jobs at c.jobs_of-jobs.ensures.few in
     told_at Refusal.TableCount (λ (x : Job × ℕ). x.1 =? x.0.lo) _ (λ i e k. search rules) (zip (jobs_of c.args.p.now) c.args.counts) c.position.result _
     (position_from_yields_List (λ (x : Job × ℕ). not (x.1 =? x.0.lo)) c.position.new.self _ c.position.result c.position.ensures.ran (YieldsList-from_zip (YieldsList-at c.zip.ensures.first (YieldsList-from_slice (jobs_of c.args.p.now) cc)) (YieldsList-at c.zip.ensures.second (YieldsList-from_slice c.args.counts cc))) (λ x b q k. search (rules, tests)))
     c.refused.ensures

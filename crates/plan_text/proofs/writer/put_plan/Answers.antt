@@ -18,22 +18,22 @@ loop-job-init c =
 pub job-requires : goal.job-requires
 job-requires c =
     let p = c.args.p.now in
-    rw c.jobs_of-job-items.ensures.jobs (many_room job_text (jobs_of p) (heads p) c.args.out.now blank_job (jobs_room p c.args.out.now c.requires)
-    _ _ _ (rw c.jobs_of-job-items.ensures.jobs at c.loop-job-test.true) c.loop-job.invariant.place c.loop-job.invariant.written)
+    rw c.first_jobs-job-items.ensures.all (many_room job_text (jobs_of p) (heads p) c.args.out.now blank_job (jobs_room p c.args.out.now c.requires)
+    _ _ _ (rw c.first_jobs-job-items.ensures.all at c.loop-job-test.true) c.loop-job.invariant.place c.loop-job.invariant.written)
 
 pub loop-job-preserved : goal.loop-job-preserved
 loop-job-preserved c =
     let p = c.args.p.now in
     let x = many_more job_text (jobs_of p) (heads p) c.args.out.now blank_job (jobs_room p c.args.out.now c.requires)
-    _ _ _ (rw c.jobs_of-job-items.ensures.jobs at c.loop-job-test.true) c.loop-job.invariant.place c.loop-job.invariant.written
-    _ _ (rw c.jobs_of-job-items.ensures.jobs at c.job.ensures.place) (rw c.jobs_of-job-items.ensures.jobs at c.job.ensures.written) in
+    _ _ _ (rw c.first_jobs-job-items.ensures.all at c.loop-job-test.true) c.loop-job.invariant.place c.loop-job.invariant.written
+    _ _ (rw c.first_jobs-job-items.ensures.all at c.job.ensures.place) (rw c.first_jobs-job-items.ensures.all at c.job.ensures.written) in
     record { place = x.0; written = x.1; same_output = c.job.ensures.same_output ∙ c.loop-job.invariant.same_output }
 
 pub loop-name-init : goal.loop-name-init
 loop-name-init c =
     let p = c.args.p.now in
     let out = c.args.out.now in
-    let all = many_all job_text (jobs_of p) (heads p) out _ _ _ (rw c.jobs_of-job-items.ensures.jobs at c.loop-job-test.false) c.loop-job.invariant.place c.loop-job.invariant.written in
+    let all = many_all job_text (jobs_of p) (heads p) out _ _ _ (rw c.first_jobs-job-items.ensures.all at c.loop-job-test.false) c.loop-job.invariant.place c.loop-job.invariant.written in
     let x = many_none (number_line "slot=") (slots_of p) (heads p ++ flat_map job_text (jobs_of p)) out _ _ all.0 all.1 in
     record { place = x.0; written = x.1; same_output = refl }
 
