@@ -1,6 +1,6 @@
 -- A layout is built deadline by deadline: what is laid out and what is still to come are all the intervals, and with the jobs at home it is the plan's layout.
 use Rattle.std.specs.Prelude.{ℕ, ◌+◌, ◌-◌, ◌≤◌, ◌<◌, max, ◌≡◌, List, [], ◌∷◌, ◌++◌, map, length, get_or, set, replicate}
-use Rattle.std.proofs.Common.{ap, ◌∙◌, append_assoc, append-nil, arith, length-append, lt-ltb, le-ltb}
+use Rattle.std.proofs.Common.{ap, ◌∙◌, append_assoc, arith, length-append, lt-ltb}
 use Rattle.std.proofs.lemmas.List.{length-map}
 use Rattle.words.specs.Words.{filled}
 use Rattle.words.specs.Cases.{by_test}
@@ -35,12 +35,6 @@ module _ (l : Layout) (xs : List Interval) (e : l ≡ laid xs) where
       let few : length xs < max_intervals = omega (arith, laid_count) in
       let many : length (xs ++ x ∷ []) ≡ length xs + 1 = length-append xs (x ∷ []) in
       rw (a, e, many) (ap (λ (ys : List Interval). record { count = length xs + 1; interval = ys; home = replicate max_jobs max_intervals }) (filled_more max_intervals blank_interval xs x few ∙ ap (λ (n : ℕ). (xs ++ x ∷ []) ++ replicate (max_intervals - n) blank_interval) many))
-
-  pub laid_gap : (a b : ℕ) (l' : Layout) → a < b → l' ≡ laid (xs ++ record { start = a; end = b } ∷ []) → l' ≡ laid (xs ++ gap a b)
-  laid_gap a b l' g h = rw (lt-ltb a b g) h
-
-  pub laid_no_gap : (a b : ℕ) → b ≤ a → l ≡ laid (xs ++ gap a b)
-  laid_no_gap a b g = rw (le-ltb a b g, append-nil xs) e
 
 -- ---- the intervals of some jobs, deadline by deadline
 

@@ -4,11 +4,8 @@ pub mod EveryLaws
 pub mod Cases
 pub mod Difference
 pub mod FilledLaws
-pub mod BackLaws
-pub mod PassedLaws
 pub mod PartLaws
 pub mod ZipLaws
-pub mod StoredLaws
 pub mod MemberLaws
 pub mod SumLaws
 pub mod MadeLaws

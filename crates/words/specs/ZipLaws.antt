@@ -1,8 +1,7 @@
--- Laws of two lists taken together element by element: how many, which at place i, and the rest from there.
-use Prim.Native.Nat.{ℕ, zero, suc, ◌+◌, ◌≤◌, ◌<◌}
-use Rattle.std.proofs.Common.{not-suc-le-zero, le_of_suc-le-suc, arith, ◌∙◌, drop_of_length-le, drop-cons, get_or-take, length-take-le}
-use Rattle.std.proofs.Math.Numerals.{add-one}
-use Rattle.std.specs.Prelude.{Bool, true, false, ◌&&◌, ◌≡◌, length, take, drop, get_or}
+-- Laws of two lists taken together element by element: how many, which at place i, and the test of every pair.
+use Prim.Native.Nat.{ℕ, zero, suc, ◌≤◌, ◌<◌}
+use Rattle.std.proofs.Common.{not-suc-le-zero, le_of_suc-le-suc, arith, ◌∙◌, get_or-take, length-take-le}
+use Rattle.std.specs.Prelude.{Bool, ◌&&◌, ◌≡◌, length, take, get_or}
 use Rattle.std.proofs.Math.Path.{refl, ap}
 use mathlib.Core.List.{List, [], ◌∷◌, zip_with}
 use Rattle.std.specs.List.{list_all, zip}
@@ -30,28 +29,6 @@ module _ {A B C : Type 0} (f : A → B → C) (xs : List A) (ys : List B) (n : �
 
   pub zipped_at : (i : ℕ) (x : A) (y : B) (z : C) → i < n → get_or (zip_with f (take n xs) ys) i z ≡ f (get_or xs i x) (get_or ys i y)
   zipped_at i x y z l = let e = length-take-le n xs h in zip_at f (take n xs) ys i x y z (omega arith) (omega arith) ∙ ap (λ (a : A). f a (get_or ys i y)) (get_or-take n xs i x l)
-
-  pub zipped_from : (i : ℕ) (x : A) (y : B) → i < n → drop i (zip_with f (take n xs) ys) ≡ f (get_or xs i x) (get_or ys i y) ∷ drop (suc i) (zip_with f (take n xs) ys)
-  zipped_from i x y l =
-      let e = zipped_length in
-      rw (drop-cons (zip_with f (take n xs) ys) i (f x y) (omega arith), zipped_at i x y (f x y) l)
-
-  pub zipped_end : (i : ℕ) → n ≤ i → drop i (zip_with f (take n xs) ys) ≡ []
-  zipped_end i l = let e = zipped_length in drop_of_length-le (zip_with f (take n xs) ys) {i = i} (omega arith)
-
--- a test of every pair, from place i on
-module _ {A B : Type 0} (f : A → B → Bool) (xs : List A) (ys : List B) (n : ℕ) (h : n ≤ length xs) (k : n ≤ length ys) (i : ℕ) where
-  pub every_on : (x : A) (y : B) → i < n → f (get_or xs i x) (get_or ys i y) ≡ true → every (drop (i + 1) (zip_with f (take n xs) ys)) ≡ every (drop i (zip_with f (take n xs) ys))
-  unfolding every
-  every_on x y l p = rw (zipped_from f xs ys n h k i x y l, p, add-one i)
-
-  pub every_not : (x : A) (y : B) → i < n → f (get_or xs i x) (get_or ys i y) ≡ false → false ≡ every (drop i (zip_with f (take n xs) ys))
-  unfolding every
-  every_not x y l p = rw (zipped_from f xs ys n h k i x y l, p)
-
-  pub every_end : n ≤ i → true ≡ every (drop i (zip_with f (take n xs) ys))
-  unfolding every
-  every_end l = rw (zipped_end f xs ys n h k i l)
 
 -- the test of every pair is the library's
 pub every_pair : {A B : Type 0} (test : A → B → Bool) (xs : List A) (ys : List B) → every (zip_with test xs ys) ≡ list_all (λ (p : A × B). test p.0 p.1) (zip xs ys)
