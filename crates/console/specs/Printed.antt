@@ -1,10 +1,8 @@
 -- The printed lines by their values, and that the pieces which the code writes are the line.
-use Rattle.std.specs.Prelude.{ℕ, ◌≡◌, refl, ℤ}
-use Rattle.std.proofs.Common.{arith, ◌∙◌}
-use Rattle.std.proofs.Math.Path.{sym, ap}
-use mathlib.Core.List.{List, [], ◌∷◌, ◌++◌, map, append_assoc}
-use Rattle.std.proofs.Math.ListN.{get_or}
-use Rattle.answers.specs.Answer.{Answer, Accepted, Form, SlotLimit, JobLimit, Window, Budget, TableSlot, TableCount, Overfull, Overdrawn, Incoherent, Over, OtherSlot, WrongKind, NoRoom, Chopped, number_of, places_of}
+use Rattle.std.specs.Prelude.{ℕ, ◌≡◌, refl, ℤ, Err}
+use mathlib.Core.List.{List, [], ◌∷◌, ◌++◌, append_assoc}
+use Rattle.answers.specs.declared.Refusal.{Refusal}
+use Rattle.answers.specs.Answer.{number_of, places_of, first_place}
 use Rattle.intervals.specs.declared.Interval.{Interval}
 use Rattle.executive.specs.declared.Phase.{Phase}
 use Rattle.executive.specs.declared.Run.{Run}
@@ -51,55 +49,28 @@ module _ (key a b : List ℕ) where
 
 -- ---- a refusal has one place, and 8 has two
 
-one_place : (a : Answer) → (number_of a ≡ 8 → ⊥) → places_of a ≡ get_or (places_of a) 0 0 ∷ []
-one_place Accepted h = refl
-one_place (Form line) h = refl
-one_place SlotLimit h = refl
-one_place JobLimit h = refl
-one_place (Window job) h = refl
-one_place (Budget job) h = refl
-one_place (TableSlot slot) h = refl
-one_place (TableCount job) h = refl
-one_place (Overfull a b) h = absurd (h refl)
-one_place (Overdrawn border) h = refl
-one_place Incoherent h = refl
-one_place (Over t) h = refl
-one_place (OtherSlot t) h = refl
-one_place (WrongKind t) h = refl
-one_place (NoRoom bytes) h = refl
-one_place (Chopped job) h = refl
+one_place : (r : Refusal) → ((a b : ℕ) → r ≡ Refusal.Overfull a b → ⊥) → places_of (Err r) ≡ first_place (Err r) ∷ []
+one_place (Refusal.Form line) h = refl
+one_place Refusal.SlotLimit h = refl
+one_place Refusal.JobLimit h = refl
+one_place (Refusal.Window job) h = refl
+one_place (Refusal.Budget job) h = refl
+one_place (Refusal.TableSlot slot) h = refl
+one_place (Refusal.TableCount job) h = refl
+one_place (Refusal.Overfull a b) h = absurd (h a b refl)
+one_place (Refusal.Overdrawn border) h = refl
+one_place Refusal.Incoherent h = refl
+one_place (Refusal.Over t) h = refl
+one_place (Refusal.OtherSlot t) h = refl
+one_place (Refusal.WrongKind t) h = refl
+one_place (Refusal.NoRoom bytes) h = refl
+one_place (Refusal.Chopped job) h = refl
 
-two_places : (a : Answer) → number_of a ≡ 8 → places_of a ≡ get_or (places_of a) 0 0 ∷ get_or (places_of a) 1 0 ∷ []
-two_places Accepted h = absurd (omega (arith, h))
-two_places (Form line) h = absurd (omega (arith, h))
-two_places SlotLimit h = absurd (omega (arith, h))
-two_places JobLimit h = absurd (omega (arith, h))
-two_places (Window job) h = absurd (omega (arith, h))
-two_places (Budget job) h = absurd (omega (arith, h))
-two_places (TableSlot slot) h = absurd (omega (arith, h))
-two_places (TableCount job) h = absurd (omega (arith, h))
-two_places (Overfull a b) h = refl
-two_places (Overdrawn border) h = absurd (omega (arith, h))
-two_places Incoherent h = absurd (omega (arith, h))
-two_places (Over t) h = absurd (omega (arith, h))
-two_places (OtherSlot t) h = absurd (omega (arith, h))
-two_places (WrongKind t) h = absurd (omega (arith, h))
-two_places (NoRoom bytes) h = absurd (omega (arith, h))
-two_places (Chopped job) h = absurd (omega (arith, h))
-
-module _ (answer : Answer) (n p : ℕ) (number : n ≡ number_of answer) (first : p ≡ get_or (places_of answer) 0 0) where
-  pub refused_one : (n ≡ 8 → ⊥) → bytes "refused=" ++ (digits n ++ comma ∷ []) ++ (digits p ++ LF ∷ []) ≡ refused_line answer
+module _ (r : Refusal) (n : ℕ) (number : n ≡ number_of (Err r)) where
+  pub refused_one : ((a b : ℕ) → r ≡ Refusal.Overfull a b → ⊥) → (p : ℕ) → p ≡ first_place (Err r) → bytes "refused=" ++ (digits n ++ comma ∷ []) ++ (digits p ++ LF ∷ []) ≡ refused_line (Err r)
   unfolding refused_line
-  refused_one h =
-      two_values (bytes "refused=") (digits n) (digits p)
-      ∙ ap (λ (places : List ℕ). values "refused=" (map digits (n ∷ places))) (ap (λ (x : ℕ). x ∷ []) first ∙ sym (one_place answer (λ e. h (number ∙ e))))
-      ∙ ap (λ (x : ℕ). values "refused=" (map digits (x ∷ places_of answer))) number
+  refused_one h p place = rw (number, place, one_place r h) (two_values (bytes "refused=") (digits (number_of (Err r))) (digits (first_place (Err r))))
 
-  pub refused_two : (q : ℕ) → q ≡ get_or (places_of answer) 1 0 → n ≡ 8
-      → bytes "refused=" ++ (digits n ++ comma ∷ []) ++ (digits p ++ comma ∷ []) ++ (digits q ++ LF ∷ []) ≡ refused_line answer
+  pub refused_two : (a b : ℕ) → r ≡ Refusal.Overfull a b → bytes "refused=" ++ (digits n ++ comma ∷ []) ++ (digits a ++ comma ∷ []) ++ (digits b ++ LF ∷ []) ≡ refused_line (Err r)
   unfolding refused_line
-  refused_two q second h =
-      three_values (bytes "refused=") (digits n) (digits p) (digits q)
-      ∙ ap (λ (places : List ℕ). values "refused=" (map digits (n ∷ places)))
-      (ap (λ (x : ℕ). x ∷ q ∷ []) first ∙ ap (λ (x : ℕ). get_or (places_of answer) 0 0 ∷ x ∷ []) second ∙ sym (two_places answer (sym number ∙ h)))
-      ∙ ap (λ (x : ℕ). values "refused=" (map digits (x ∷ places_of answer))) number
+  refused_two a b is = rw (number, is) (three_values (bytes "refused=") (digits 8) (digits a) (digits b))

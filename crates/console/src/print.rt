@@ -128,7 +128,7 @@ pub(crate) fn put_job_line(out: &mut [u8], at: usize, number: usize, e: Entry) -
     put_value(out, third, usize::from(e.given), b'\n')
 }
 
-// `refused=number,place`, for 8 both places
+// `refused=number,place`, and where there are two places, as with Overfull, both
 pub(crate) fn put_refused_line(out: &mut [u8], at: usize, refusal: Refusal) -> usize
     requires { at + longest ≤ length out.old }
     ensures { Piece longest at (refused_line (Err refusal)) out.old result out.new }
@@ -136,11 +136,11 @@ pub(crate) fn put_refused_line(out: &mut [u8], at: usize, refusal: Refusal) -> u
     let start = put_key(out, at, b"refused=");
     let number = answers::number_of(Err(refusal));
     let first = put_value(out, start, usize::from(number), b',');
-    let place = answers::first_place(Err(refusal));
-    if number != 8 {
-        return put_value(out, first, place, b'\n');
+    match refusal {
+        Refusal::Overfull(a, b) => {
+            let second = put_value(out, first, usize::from(a), b',');
+            put_value(out, second, usize::from(b), b'\n')
+        }
+        _ => put_value(out, first, answers::first_place(Err(refusal)), b'\n'),
     }
-    let other = answers::second_place(Err(refusal));
-    let second = put_value(out, first, place, b',');
-    put_value(out, second, other, b'\n')
 }

@@ -124,7 +124,7 @@ fn line_ready(text: &[u8]) -> bool
 fn line_after(line: u16) -> u16
     ensures { result ≡ line_after line }
 {
-    if line < 65535 { line + 1 } else { line }
+    line.saturating_add(1)
 }
 
 // A report is applied: the step line and the next run, or a refusal.
