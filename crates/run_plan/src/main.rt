@@ -2,9 +2,8 @@
 // It holds only input that is not done with. A read or a write that fails ends it, with nothing more printed.
 #![tactic(auto)]
 
-ghost use Rattle.std.specs.Prelude.{◌≤◌, ◌<◌, ◌≡◌, length, take, IfSome};
+ghost use Rattle.std.specs.Prelude.{◌<◌, take, IfSome};
 ghost use Rattle.plan_text.specs.DecidedLaws.{enough};
-ghost use Rattle.console.specs.Console.{run_room};
 ghost use Rattle.run_plan.specs.Loop.{Answered, Ended, Rested, Standing, Turned};
 
 use console::run::{Console, RUN_ROOM, Turn};
@@ -18,8 +17,7 @@ const HELD: usize = PLAN + 4096;
 
 // One event for the text, or nothing where the console waits; what it prints is at the start of the output.
 #[tactic(auto, using(crate::specs::LoopLaws::turn_answered))]
-fn answered(c: Console, text: &[u8], out: &mut [u8]) -> Option<Turn>
-    requires { run_room ≤ length out.old }
+fn answered(c: Console, text: &[u8], out: &mut [u8; RUN_ROOM]) -> Option<Turn>
     ensures { Answered c text.now result out.new }
 {
     c.next(text, out)
@@ -33,9 +31,8 @@ fn settled<W: Write>(
     output: &mut W,
     first: Console,
     text: &[u8],
-    out: &mut [u8],
+    out: &mut [u8; RUN_ROOM],
 ) -> Option<(Console, usize)>
-    requires { run_room ≤ length out.old }
     ensures { IfSome result (λ r. Rested first text.now r.0 r.1 (W.contents output.old) (W.contents output.new)) }
 {
     let mut c = first;
@@ -74,9 +71,8 @@ impl Session {
 
     // The end of input; what it prints is at the start of the output.
     #[tactic(auto, using(crate::specs::LoopLaws::ends))]
-    fn end(&self, out: &mut [u8]) -> usize
+    fn end(&self, out: &mut [u8; RUN_ROOM]) -> usize
         requires standing { Standing self.now.console (take self.now.n self.now.held) }
-        requires room { run_room ≤ length out.old }
         ensures { Ended self.now.console (take self.now.n self.now.held) out.old result out.new }
     {
         self.console.end(&self.held[..self.n], out)
@@ -90,10 +86,9 @@ impl Session {
         rt: &impl Eprint,
         input: &mut R,
         output: &mut W,
-        out: &mut [u8],
+        out: &mut [u8; RUN_ROOM],
     ) -> Option<()>
         requires standing { Standing self.old.console (take self.old.n self.old.held) }
-        requires room { run_room ≤ length out.old }
         ensures { IfSome result (λ _. Turned self.old.console (take self.old.n self.old.held) self.new.console (take self.new.n self.new.held) (R.remaining input.old) (R.remaining input.new) (W.contents output.old) (W.contents output.new)) }
     {
         let more = streams::read_after(rt, input, &mut self.held, self.n).ok()?;
