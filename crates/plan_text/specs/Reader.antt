@@ -17,7 +17,7 @@ use Rattle.plan_text.specs.declared.reader.Lines.{Lines}
 
 -- where the lines stand
 abbrev pub stands : Lines → Cursor
-stands r = standing r.text.now r.at r.line
+stands r = standing r.reader.text.now r.reader.at r.line
 
 -- a thing and the lines after it, or a refusal
 abbrev pub read_of : {A : Type 0} → Result A Refusal → Lines → Read A
@@ -27,13 +27,13 @@ read_of (Err e) r = refused (Err e)
 -- the answer and the lines after it are those of the reader, which takes at most k lines; what was read stands in the text
 pub record Reads {A : Type 0} (one : Reader A) (k : ℕ) (before : Lines) (answer : Result A Refusal) (after : Lines) : Type 0 where
   pub read : read_of answer after ≡ one (stands before)
-  pub text : after.text ≡ before.text
+  pub text : after.reader.text ≡ before.reader.text
   pub lines : after.line ≤ before.line + k
-  pub within : is_ok answer ≡ true → after.at ≤ length after.text.now
+  pub within : is_ok answer ≡ true → after.reader.at ≤ length after.reader.text.now
 
 -- what was found on a line and the place after it are taken; nothing was found: 1 at the line
 abbrev pub Taken : {A : Type 0} → Lines → Option (A × ℕ) → Result A Refusal → Lines → Type 0
-Taken before (Some v) answer after = (answer ≡ Ok v.0) × (after ≡ record before { at = v.1; line = before.line + 1 })
+Taken before (Some v) answer after = (answer ≡ Ok v.0) × (after ≡ record before { reader = record before.reader { at = v.1 }; line = before.line + 1 })
 Taken before None answer after = (answer ≡ Err (Refusal.Form before.line)) × (after ≡ before)
 
 -- ---- the jobs and the slots
@@ -80,5 +80,5 @@ plan_prefix text = prefix_of text (next_plan (start_of text))
 
 -- a plan that was read and where the lines then stand, or the refusal beside the blank plan
 abbrev pub prefix_told : Result Plan Refusal → Lines → PlanPrefix
-prefix_told (Ok plan) r = record { answer = Accepted; plan = plan; next = r.at; line = r.line }
+prefix_told (Ok plan) r = record { answer = Accepted; plan = plan; next = r.reader.at; line = r.line }
 prefix_told (Err e) r = refused_prefix (Err e)

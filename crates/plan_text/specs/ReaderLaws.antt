@@ -17,14 +17,14 @@ use Rattle.plan_text.specs.declared.reader.Lines.{Lines}
 
 module _ {A : Type 0} (meaning : List ℕ → Option A) (key : List ℕ) (before after : Lines) (answer : Result A Refusal) where
   -- what was found on the line is read
-  pub taken_reads : (found : Option (A × ℕ)) → Taken before found answer after → found ≡ field_at meaning before.text.now before.at key
+  pub taken_reads : (found : Option (A × ℕ)) → Taken before found answer after → found ≡ field_at meaning before.reader.text.now before.reader.at key
       → Reads (line_with meaning key) 1 before answer after
   taken_reads (Some v) taken e =
-      let f = field_got meaning key before.text.now before.at before.line (before.line + 1) (omega arith) v e in
+      let f = field_got meaning key before.reader.text.now before.reader.at before.line (before.line + 1) (omega arith) v e in
       rw (taken.0, taken.1) (record { read = sym f.0; text = refl; lines = omega arith; within = λ ok. f.1 })
   taken_reads None taken e =
       rw (taken.0, taken.1)
-      (record { read = sym (field_refused meaning key before.text.now before.at before.line 0 e); text = refl; lines = omega arith; within = λ ok. absurd (never ok refl) })
+      (record { read = sym (field_refused meaning key before.reader.text.now before.reader.at before.line 0 e); text = refl; lines = omega arith; within = λ ok. absurd (never ok refl) })
 
 -- ---- one reader after the other, as `?` goes on
 
@@ -53,13 +53,13 @@ pub wider : {A : Type 0} {one : Reader A} (k m : ℕ) {before after : Lines} {an
 wider k m le h = record { read = h.read; text = h.text; lines = omega (arith, h.lines); within = h.within }
 
 -- an answer that must be accepted
-pub must_reads : (limit : Answer) {answer : Answer} (here : Lines) → answer ≡ limit → here.at ≤ length here.text.now → Reads (must limit) 0 here answer here
+pub must_reads : (limit : Answer) {answer : Answer} (here : Lines) → answer ≡ limit → here.reader.at ≤ length here.reader.text.now → Reads (must limit) 0 here answer here
 unfolding accepted
 must_reads (Ok u) here e h = rw e (record { read = refl; text = refl; lines = omega arith; within = λ ok. h })
 must_reads (Err r) here e h = rw e (record { read = refl; text = refl; lines = omega arith; within = λ ok. h })
 
 -- a thing that takes no text
-pub given : {A : Type 0} (x : A) (here : Lines) → here.at ≤ length here.text.now → Reads (give x) 0 here (Ok x) here
+pub given : {A : Type 0} (x : A) (here : Lines) → here.reader.at ≤ length here.reader.text.now → Reads (give x) 0 here (Ok x) here
 given x here h = record { read = refl; text = refl; lines = omega arith; within = λ ok. h }
 
 -- things read into an array: what goes on with the array goes on with the things
@@ -87,11 +87,11 @@ module _ {A : Type 0} (one : Reader A) (step size : ℕ) (blank : A) (count : �
   -- what holds at the loop's head
   pub record Fills (array : List A) (here : Lines) (i : ℕ) : Type 0 where
     pub filling : Filling one size blank count (stands before) array (stands here) i
-    pub text : here.text ≡ before.text
+    pub text : here.reader.text ≡ before.reader.text
     pub lines : here.line ≤ before.line + step * i
-    pub within : here.at ≤ length here.text.now
+    pub within : here.reader.at ≤ length here.reader.text.now
 
-  pub fills_start : before.at ≤ length before.text.now → Fills (replicate size blank) before 0
+  pub fills_start : before.reader.at ≤ length before.reader.text.now → Fills (replicate size blank) before 0
   fills_start h = record { filling = filling_starts one size blank count (stands before); text = refl; lines = omega arith; within = h }
 
   module _ (few : count ≤ size) (array : List A) (here there : Lines) (i : ℕ) (inv : Fills array here i) (more : i < count) (answer : Result A Refusal) (next : Reads one step here answer there) where
@@ -131,47 +131,47 @@ module _ {A : Type 0} (one : Reader A) (step size : ℕ) (blank : A) (count : �
 -- ---- the plan at a place of a text
 
 -- its lines would pass the last number
-pub told_late : (here : Lines) → last_line < here.line + plan_lines → prefix_told (Err (Refusal.Form here.line)) here ≡ plan_from here.text.now here.at here.line
+pub told_late : (here : Lines) → last_line < here.line + plan_lines → prefix_told (Err (Refusal.Form here.line)) here ≡ plan_from here.reader.text.now here.reader.at here.line
 unfolding plan_from
 told_late here h = rw (lt-leb (here.line + plan_lines) last_line h)
 
 -- a plan that was read, or not
 pub told_plan : (before after : Lines) (answer : Result Plan Refusal) → before.line + plan_lines ≤ last_line → Reads next_plan plan_lines before answer after
-    → prefix_told answer after ≡ plan_from before.text.now before.at before.line
+    → prefix_told answer after ≡ plan_from before.reader.text.now before.reader.at before.line
 unfolding plan_from
 told_plan before after (Ok plan) h r =
-    let there : after.at ≤ length before.text.now = rw r.text at r.within refl in
-    let n : length before.text.now - length (drop after.at after.text.now) ≡ after.at = rw r.text (omega (arith, length-drop after.at before.text.now)) in
+    let there : after.reader.at ≤ length before.reader.text.now = rw r.text at r.within refl in
+    let n : length before.reader.text.now - length (drop after.reader.at after.reader.text.now) ≡ after.reader.at = rw r.text (omega (arith, length-drop after.reader.at before.reader.text.now)) in
     rw (le-leb (before.line + plan_lines) last_line h, ← r.read, n)
 told_plan before after (Err e) h r = rw (le-leb (before.line + plan_lines) last_line h, ← r.read)
 
 -- ---- the plan and nothing after
-module _ (before after : Lines) (first : before.line ≡ 1) (start : before.at ≡ 0) where
-  pub whole_refused : {e : Refusal} {answer : Result Plan Refusal} → Reads next_plan plan_lines before answer after → answer ≡ Err e → plan_told (Err e) ≡ read_plan before.text.now
+module _ (before after : Lines) (first : before.line ≡ 1) (start : before.reader.at ≡ 0) where
+  pub whole_refused : {e : Refusal} {answer : Result Plan Refusal} → Reads next_plan plan_lines before answer after → answer ≡ Err e → plan_told (Err e) ≡ read_plan before.reader.text.now
   unfolding read_plan only_plan
   whole_refused {e} r w =
-      let q : refused (Err e) ≡ next_plan (standing before.text.now 0 1) = rw (w, first, start) at r.read in
+      let q : refused (Err e) ≡ next_plan (standing before.reader.text.now 0 1) = rw (w, first, start) at r.read in
       rw (← q)
 
   module _ {plan : Plan} {answer : Result Plan Refusal} (r : Reads next_plan plan_lines before answer after) (w : answer ≡ Ok plan) where
-    was : got plan (stands after) ≡ next_plan (standing before.text.now 0 1)
+    was : got plan (stands after) ≡ next_plan (standing before.reader.text.now 0 1)
     was = rw (w, first, start) at r.read
 
-    rest : length (drop after.at after.text.now) ≡ length after.text.now - after.at
-    rest = length-drop after.at after.text.now
+    rest : length (drop after.reader.at after.reader.text.now) ≡ length after.reader.text.now - after.reader.at
+    rest = length-drop after.reader.at after.reader.text.now
 
-    pub whole_more : after.at < length before.text.now → plan_told (Err (Refusal.Form after.line)) ≡ read_plan before.text.now
+    pub whole_more : after.reader.at < length before.reader.text.now → plan_told (Err (Refusal.Form after.line)) ≡ read_plan before.reader.text.now
     unfolding read_plan only_plan nothing_after accepted
     whole_more h =
-        let l : after.at < length after.text.now = rw r.text h in
-        let n : (length (drop after.at after.text.now) =? 0) ≡ false = ne_eqb (length (drop after.at after.text.now)) 0 (λ z. omega (arith, rest)) in
+        let l : after.reader.at < length after.reader.text.now = rw r.text h in
+        let n : (length (drop after.reader.at after.reader.text.now) =? 0) ≡ false = ne_eqb (length (drop after.reader.at after.reader.text.now)) 0 (λ z. omega (arith, rest)) in
         rw (← was, n)
 
-    pub whole_is : length before.text.now ≤ after.at → plan_told (Ok plan) ≡ read_plan before.text.now
+    pub whole_is : length before.reader.text.now ≤ after.reader.at → plan_told (Ok plan) ≡ read_plan before.reader.text.now
     unfolding read_plan only_plan nothing_after accepted
     whole_is h =
-        let l : length after.text.now ≤ after.at = rw r.text h in
-        let n : (length (drop after.at after.text.now) =? 0) ≡ true = eq-eqb (length (drop after.at after.text.now)) 0 (omega (arith, rest)) in
+        let l : length after.reader.text.now ≤ after.reader.at = rw r.text h in
+        let n : (length (drop after.reader.at after.reader.text.now) =? 0) ≡ true = eq-eqb (length (drop after.reader.at after.reader.text.now)) 0 (omega (arith, rest)) in
         rw (← was, n)
 
 -- ---- a level

@@ -9,7 +9,7 @@ ghost use Rattle.plan_text.specs.Reader.{Taken, Reads, many_filled, plan_lines, 
 
 use super::PlanRead;
 use answers::{Answer, Refusal};
-use line_reader::number_field;
+use line_reader::{LineReader, number_field};
 use plan::{JOBS, Job, Level, Plan, SLOTS};
 
 // The lines of the largest plan, and the last line that has a number.
@@ -27,11 +27,10 @@ pub struct PlanPrefix {
     pub line: u16,
 }
 
-// The lines of a text from a place on, with the number of the line there.
+// A walk through the lines of a text: the reader at the next line, and that line's number.
 #[derive(Drop)]
 struct Lines<'a> {
-    text: &'a [u8],
-    at: usize,
+    reader: LineReader<'a>,
     line: u16,
 }
 
@@ -63,7 +62,7 @@ impl Lines<'_> {
         ensures { Taken self.old found result self.new }
     {
         let (value, next) = found.ok_or(Refusal::Form(self.line))?;
-        self.at = next;
+        self.reader.at = next;
         self.line += 1;
         Ok(value)
     }
@@ -74,7 +73,7 @@ impl Lines<'_> {
         requires { self.old.line < last_line }
         ensures { Reads (line_with number key.now) 1 self.old result self.new }
     {
-        self.taken(number_field(self.text, self.at, key))
+        self.taken(number_field(self.reader.text, self.reader.at, key))
     }
 
     // The level on the line.
@@ -83,7 +82,7 @@ impl Lines<'_> {
         requires { self.old.line < last_line }
         ensures { Reads (field level_in "level=") 1 self.old result self.new }
     {
-        self.taken(level_field(self.text, self.at))
+        self.taken(level_field(self.reader.text, self.reader.at))
     }
 
     // The five lines of a job.
@@ -109,7 +108,7 @@ impl Lines<'_> {
     fn jobs(&mut self, count: usize) -> Result<[Job; JOBS], Refusal>
         requires count_le_max_jobs { count ≤ max_jobs }
         requires lines { self.old.line + 5 * count ≤ last_line }
-        requires within { self.old.at ≤ length self.old.text.now }
+        requires within { self.old.reader.at ≤ length self.old.reader.text.now }
         ensures { Reads (many_filled max_jobs blank_job count next_job) (5 * count) self.old result self.new }
     {
         let mut job = [plan::blank_job(); JOBS];
@@ -123,7 +122,7 @@ impl Lines<'_> {
     fn slots(&mut self, count: usize) -> Result<[u16; SLOTS], Refusal>
         requires count_le_max_slots { count ≤ max_slots }
         requires lines { self.old.line + count ≤ last_line }
-        requires within { self.old.at ≤ length self.old.text.now }
+        requires within { self.old.reader.at ≤ length self.old.reader.text.now }
         ensures { Reads (many_filled max_slots 0 count (field number "slot=")) count self.old result self.new }
     {
         let mut table = [0u16; SLOTS];
@@ -154,7 +153,7 @@ impl Lines<'_> {
 
     // The plan from any line on: where the lines of the largest would pass the last number it is refused at its first.
     fn numbered_plan(&mut self) -> Result<Plan, Refusal>
-        ensures { prefix_told result self.new ≡ plan_from self.old.text.now self.old.at self.old.line }
+        ensures { prefix_told result self.new ≡ plan_from self.old.reader.text.now self.old.reader.at self.old.line }
     {
         if LAST_LINE < usize::from(self.line) + PLAN_LINES {
             return Err(Refusal::Form(self.line));
@@ -168,12 +167,13 @@ impl Lines<'_> {
 pub fn plan_from(text: &[u8], at: usize, line: u16) -> PlanPrefix
     ensures { result ≡ plan_from text.now at line }
 {
-    let mut lines = Lines { text, at, line };
+    let reader = LineReader { text, at };
+    let mut lines = Lines { reader, line };
     match lines.numbered_plan() {
         Ok(plan) => PlanPrefix {
             answer: Ok(()),
             plan,
-            next: lines.at,
+            next: lines.reader.at,
             line: lines.line,
         },
         Err(refusal) => PlanPrefix {
@@ -197,13 +197,10 @@ pub fn plan_prefix(text: &[u8]) -> PlanPrefix
 fn whole_plan(text: &[u8]) -> Result<Plan, Refusal>
     ensures { plan_told result ≡ read_plan text.now }
 {
-    let mut lines = Lines {
-        text,
-        at: 0,
-        line: 1,
-    };
+    let reader = LineReader { text, at: 0 };
+    let mut lines = Lines { reader, line: 1 };
     let plan = lines.plan()?;
-    if lines.at < text.len() {
+    if lines.reader.at < text.len() {
         return Err(Refusal::Form(lines.line));
     }
     Ok(plan)
