@@ -3,6 +3,7 @@ pub mod Check
 pub mod Run
 pub mod PlanA
 pub mod Pieces
+pub mod Sheet
 pub mod Printed
 pub mod Reports
 pub mod Console

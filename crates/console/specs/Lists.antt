@@ -24,7 +24,9 @@ use Rattle.acceptance.specs.Analysis.{analysis}
 use Rattle.console.specs.Print.{refused_line}
 use Rattle.console.specs.Check.{interval_lines, analysis_lines, check_output}
 use Rattle.console.specs.Run.{job_lines_from, job_lines}
-use Rattle.console.specs.Pieces.{longest, CountsIn, counts_in_lem, chunk_put, Piece, piece_within, piece_then, piece_is}
+use Rattle.console.specs.Pieces.{longest, CountsIn, counts_in_lem, chunk_put, Piece}
+use Rattle.console.specs.declared.print.Sheet.{Sheet}
+use Rattle.console.specs.Sheet.{Puts, puts_within, puts_then, puts_is}
 use Rattle.console.specs.Printed.{interval_line, job_line}
 
 -- room for a line of each interval and the answer's line
@@ -72,20 +74,20 @@ pub answer_line : bytes "answer=0\n" ≡ line "answer=" (digits 0)
 unfolding digits digits_in
 answer_line = refl
 
--- ---- the loops: one more line written after the others
+-- ---- the loops: one more line put after the others
 
-module _ (d e f : List ℕ) (at r i : ℕ) (few : suc i * longest ≤ length d) where
-  pub interval_written : (xs : List Interval) (his los : List ℤ) (y z : ℤ) → i < length xs → i < length his → i < length los
-      → Piece (i * longest) 0 (interval_lines (take i xs) his los) d at e → y ≡ get_or his i (pos 0) → z ≡ get_or los i (pos 0)
-      → Piece longest at (interval_line (get_or xs i blank_interval) y z) e r f → Piece ((i + 1) * longest) 0 (interval_lines (take (i + 1) xs) his los) d r f
-  interval_written xs his los y z a b c p hy hz q =
+module _ {a b c : Sheet} (i : ℕ) where
+  pub interval_put : (xs : List Interval) (his los : List ℤ) (y z : ℤ) → i < length xs → i < length his → i < length los
+      → Puts (i * longest) (interval_lines (take i xs) his los) a b → y ≡ get_or his i (pos 0) → z ≡ get_or los i (pos 0)
+      → Puts longest (interval_line (get_or xs i blank_interval) y z) b c → Puts ((i + 1) * longest) (interval_lines (take (i + 1) xs) his los) a c
+  interval_put xs his los y z u v w p hy hz q =
       let line : interval_line (get_or xs i blank_interval) y z ≡ interval_line (get_or xs i blank_interval) (get_or his i (pos 0)) (get_or los i (pos 0)) =
-      ap (λ (u : ℤ). interval_line (get_or xs i blank_interval) u z) hy ∙ ap (λ (u : ℤ). interval_line (get_or xs i blank_interval) (get_or his i (pos 0)) u) hz in
-      rw add-one (piece_within (piece_is (intervals_on i xs his los a b c) (piece_then p (piece_is line q) (omega arith))) (omega arith))
+      ap (λ (n : ℤ). interval_line (get_or xs i blank_interval) n z) hy ∙ ap (λ (n : ℤ). interval_line (get_or xs i blank_interval) (get_or his i (pos 0)) n) hz in
+      rw add-one (puts_within (puts_is (intervals_on i xs his los u v w) (puts_then p (puts_is line q))) (omega arith))
 
-  pub job_written : (es : List Entry) → i < length es → Piece (i * longest) 0 (job_lines_from 1 (take i es)) d at e
-      → Piece longest at (job_line (1 + i) (get_or es i fresh_entry)) e r f → Piece ((i + 1) * longest) 0 (job_lines_from 1 (take (i + 1) es)) d r f
-  job_written es a p q = rw add-one (piece_within (piece_is (jobs_on i 1 es a) (piece_then p q (omega arith))) (omega arith))
+  pub job_put : (es : List Entry) → i < length es → Puts (i * longest) (job_lines_from 1 (take i es)) a b
+      → Puts longest (job_line (1 + i) (get_or es i fresh_entry)) b c → Puts ((i + 1) * longest) (job_lines_from 1 (take (i + 1) es)) a c
+  job_put es u p q = rw add-one (puts_within (puts_is (jobs_on i 1 es u) (puts_then p q)) (omega arith))
 
 -- the first n of an array of k, for any n
 pub listed_all : {A : Type 0} (n i k : ℕ) (xs : List A) → length xs ≡ k → i ≡ min n k → take i xs ≡ take n xs

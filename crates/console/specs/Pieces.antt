@@ -1,5 +1,5 @@
 -- Pieces of a printed line: what it means that one was written at a place of an output, and that pieces one after the other are one piece.
-use Rattle.std.specs.Prelude.{ℕ, zero, suc, ◌+◌, ◌*◌, ◌/◌, ◌%◌, ◌^◌, ◌≤◌, ◌<◌, ◌≡◌, refl, List, [], ◌∷◌, ◌++◌, length, set, take, drop}
+use Rattle.std.specs.Prelude.{ℕ, zero, suc, ◌+◌, ◌*◌, ◌/◌, ◌%◌, ◌^◌, ◌≤◌, ◌<◌, ◌≡◌, List, [], ◌++◌, length, take, drop}
 use Rattle.std.proofs.Common.{pow-suc, arith, sym, ap, ◌∙◌, length-append, length-take-le, append_assoc, take-append-drop}
 use Rattle.std.specs.Array.{IsFirstChunk}
 use Rattle.std.proofs.lemmas.List.{drop-append-le}
@@ -7,7 +7,7 @@ use Rattle.std.proofs.Math.Decide.{dec_lt}
 use Rattle.lines.specs.Lines.{digits}
 use Rattle.lines.specs.NumberLaws.{digits_one, digits_more}
 use Rattle.lines.specs.Writing.{put, put_fit, place_after}
-use Rattle.lines.specs.WritingLaws.{put_fits, after_fits, length_put, put_put, put_nil, put_start, put_front, digits_shorter}
+use Rattle.lines.specs.WritingLaws.{put_fits, after_fits, length_put, put_put, put_nil, put_start, digits_shorter}
 
 -- w, at most `most` bytes, was written into d at a place: r is the place after it, e the output then
 pub record Piece (most at : ℕ) (w d : List ℕ) (r : ℕ) (e : List ℕ) : Type 0 where
@@ -26,15 +26,6 @@ piece_none at d h = record { place = omega arith; text = put_nil at d h; short =
 -- a larger bound serves too
 pub piece_within : {m n at r : ℕ} {w d e : List ℕ} → Piece m at w d r e → m ≤ n → Piece n at w d r e
 piece_within p h = record { place = p.place; text = p.text; short = omega (arith, p.short) }
-
--- one byte stored is a piece
-pub piece_byte : (at b : ℕ) (d : List ℕ) → at + 1 ≤ length d → Piece 1 at (b ∷ []) d (at + 1) (set d at b)
-piece_byte at b d h =
-    record {
-      place = refl;
-      text = ap (λ (e : List ℕ). set e at b) (put_nil (suc at) d (omega arith)) ∙ put_front at b [] d (omega arith);
-      short = omega arith;
-    }
 
 module _ {m at a : ℕ} {v d e : List ℕ} (p : Piece m at v d a e) where
   -- writing keeps the output's length

@@ -3,9 +3,10 @@ ghost use Rattle.std.specs.Prelude.{◌≡◌, ◌*◌, take};
 ghost use Rattle.intervals.specs.Intervals.{max_intervals};
 ghost use Rattle.console.specs.Check.{interval_lines, analysis_lines};
 ghost use Rattle.console.specs.Pieces.{Piece, longest, CountsIn};
+ghost use Rattle.console.specs.Sheet.{Puts};
 ghost use Rattle.console.specs.Lists.{check_room, check_written, check_length};
 
-use crate::print::{put_interval_line, put_key, put_refused_line};
+use crate::print::{Sheet, put_refusal};
 use acceptance::Analysis;
 use intervals::INTERVALS;
 
@@ -13,14 +14,12 @@ use intervals::INTERVALS;
 pub const CHECK_ROOM: usize = 8448;
 
 // A line for each interval, in order.
-fn put_interval_lines(out: &mut [u8; CHECK_ROOM], a: Analysis) -> usize
-    ensures { Piece (max_intervals * longest) 0 (interval_lines (take a.count a.interval) a.hi a.lo) out.old result out.new }
+fn put_interval_lines(sheet: &mut Sheet<'_>, a: Analysis)
+    ensures { Puts (max_intervals * longest) (interval_lines (take a.count a.interval) a.hi a.lo) sheet.old sheet.new }
 {
-    let mut at = 0;
     for i in 0..INTERVALS.min(usize::from(a.count)) {
-        at = put_interval_line(out, at, a.interval[i], a.hi[i], a.lo[i]);
+        sheet.interval_line(a.interval[i], a.hi[i], a.lo[i]);
     }
-    at
 }
 
 // The intervals and the answer; a refusal prints only its line.
@@ -28,10 +27,12 @@ fn put_analysis(out: &mut [u8; CHECK_ROOM], a: Analysis) -> usize
     ensures { Piece check_room 0 (analysis_lines a) out.old result out.new }
 {
     match a.answer {
-        Err(refusal) => put_refused_line(out, 0, refusal),
+        Err(refusal) => put_refusal(out, refusal),
         Ok(()) => {
-            let end = put_interval_lines(out, a);
-            put_key(out, end, b"answer=0\n")
+            let mut sheet = Sheet { out, at: 0 };
+            put_interval_lines(&mut sheet, a);
+            sheet.key(b"answer=0\n");
+            sheet.at
         }
     }
 }
@@ -47,7 +48,7 @@ pub fn check_output(text: &[u8], out: &mut [u8]) -> usize
     };
     let read = plan_text::reader::read_plan(text);
     match read.answer {
-        Err(refusal) => put_refused_line(out, 0, refusal),
+        Err(refusal) => put_refusal(out, refusal),
         Ok(()) => put_analysis(out, acceptance::analysis_of(read.plan)),
     }
 }

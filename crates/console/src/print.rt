@@ -1,9 +1,10 @@
-// Lines printed: each is written whole at a place of an output that has room for a line. What is printed when is in check.rt and run.rt.
-ghost use Rattle.std.specs.Prelude.{◌≡◌, [], ◌∷◌, ◌++◌, ◌+◌, ◌≤◌, length, Err};
+// Lines printed: each is put whole on a sheet that has room for it. What is printed when is in check.rt and run.rt.
+ghost use Rattle.std.specs.Prelude.{◌≡◌, [], ◌∷◌, ◌++◌, ◌≤◌, length, Err};
 ghost use Rattle.lines.specs.Lines.{digits};
 ghost use Rattle.console.specs.Print.{signed, refused_line};
 ghost use Rattle.console.specs.Run.{job_number, phase_letter, standing_letter};
 ghost use Rattle.console.specs.Pieces.{Piece, longest};
+ghost use Rattle.console.specs.Sheet.{Puts};
 ghost use Rattle.console.specs.Printed.{interval_line, step_line_from, job_line};
 
 use answers::Refusal;
@@ -11,57 +12,6 @@ use entries::{Entry, Standing};
 use executive::{Choice, Phase, Run};
 use intervals::Interval;
 use ready::Slot;
-
-// The digits of n, where the output has room for them.
-fn put_digits(out: &mut [u8], at: usize, n: usize) -> usize
-    requires { at + length (digits n) ≤ length out.old }
-    ensures { Piece 20 at (digits n) out.old result out.new }
-{
-    if n < 1000000000 {
-        return lines::writing::put_number(out, at, n as u32);
-    }
-    let last = put_digits(out, at, n / 10);
-    lines::writing::put_number(out, last, (n % 10) as u32)
-}
-
-// The key of a line, or other bytes of it.
-pub(crate) fn put_key(out: &mut [u8], at: usize, key: &[u8]) -> usize
-    requires { at + length key.now ≤ length out.old }
-    ensures { Piece (length key.now) at key.now out.old result out.new }
-{
-    lines::writing::put_bytes(out, at, key)
-}
-
-// A number and the byte that closes it.
-fn put_value(out: &mut [u8], at: usize, n: usize, close: u8) -> usize
-    requires { at + 21 ≤ length out.old }
-    ensures { Piece 21 at (digits n ++ close ∷ []) out.old result out.new }
-{
-    let end = put_digits(out, at, n);
-    out[end] = close;
-    end + 1
-}
-
-// A spare and the byte that closes it.
-fn put_spare(out: &mut [u8], at: usize, z: i32, close: u8) -> usize
-    requires { at + 22 ≤ length out.old }
-    ensures { Piece 22 at (signed z ++ close ∷ []) out.old result out.new }
-{
-    let size = z.unsigned_abs() as usize;
-    if z < 0 {
-        let first = put_key(out, at, b"-");
-        return put_value(out, first, size, close);
-    }
-    put_value(out, at, size, close)
-}
-
-// A letter and the comma after it.
-fn put_letter(out: &mut [u8], at: usize, letter: u8) -> usize
-    requires { at + 2 ≤ length out.old }
-    ensures { Piece 2 at ((letter ∷ []) ++ 44 ∷ []) out.old result out.new }
-{
-    put_key(out, at, &[letter, b','])
-}
 
 fn phase_letter(phase: Phase) -> u8
     ensures { result ∷ [] ≡ phase_letter phase }
@@ -83,18 +33,6 @@ fn standing_letter(standing: Standing) -> u8
     }
 }
 
-// `interval=start,end,hi,lo`
-pub(crate) fn put_interval_line(out: &mut [u8], at: usize, x: Interval, hi: i32, lo: i32) -> usize
-    requires { at + longest ≤ length out.old }
-    ensures { Piece longest at (interval_line x hi lo) out.old result out.new }
-{
-    let start = put_key(out, at, b"interval=");
-    let end = put_value(out, start, usize::from(x.start), b',');
-    let first = put_value(out, end, usize::from(x.end), b',');
-    let second = put_spare(out, first, hi, b',');
-    put_spare(out, second, lo, b'\n')
-}
-
 fn job_number(slot: Slot) -> u16
     ensures { result ≡ job_number slot }
 {
@@ -104,43 +42,117 @@ fn job_number(slot: Slot) -> u16
     }
 }
 
-// `step=slot,job,phase,hi,lo`: what was chosen, the phase and the current spares before the slot. `run` is the run before it.
-pub(crate) fn put_step_line(out: &mut [u8], at: usize, run: &Run, choice: &Choice) -> usize
-    requires { at + longest ≤ length out.old }
-    ensures { Piece longest at (step_line_from run.now choice.now) out.old result out.new }
-{
-    let start = put_key(out, at, b"step=");
-    let second = put_value(out, start, usize::from(run.t), b',');
-    let third = put_value(out, second, usize::from(job_number(choice.slot)), b',');
-    let fourth = put_letter(out, third, phase_letter(run.phase));
-    let fifth = put_spare(out, fourth, choice.hi, b',');
-    put_spare(out, fifth, choice.lo, b'\n')
+// An output and the place in it where the next piece goes.
+#[derive(Drop)]
+pub(crate) struct Sheet<'a> {
+    pub(crate) out: &'a mut [u8],
+    pub(crate) at: usize,
 }
 
-// `job=number,standing,given`
-pub(crate) fn put_job_line(out: &mut [u8], at: usize, number: usize, e: Entry) -> usize
-    requires { at + longest ≤ length out.old }
-    ensures { Piece longest at (job_line number e) out.old result out.new }
-{
-    let start = put_key(out, at, b"job=");
-    let second = put_value(out, start, number, b',');
-    let third = put_letter(out, second, standing_letter(e.standing));
-    put_value(out, third, usize::from(e.given), b'\n')
-}
-
-// `refused=number,place`, and where there are two places, as with Overfull, both
-pub(crate) fn put_refused_line(out: &mut [u8], at: usize, refusal: Refusal) -> usize
-    requires { at + longest ≤ length out.old }
-    ensures { Piece longest at (refused_line (Err refusal)) out.old result out.new }
-{
-    let start = put_key(out, at, b"refused=");
-    let number = answers::number_of(Err(refusal));
-    let first = put_value(out, start, usize::from(number), b',');
-    match refusal {
-        Refusal::Overfull(a, b) => {
-            let second = put_value(out, first, usize::from(a), b',');
-            put_value(out, second, usize::from(b), b'\n')
+impl<'a> Sheet<'a> {
+    // The digits of n.
+    fn digits(&mut self, n: usize)
+        ensures { Puts (length (digits n)) (digits n) self.old self.new }
+    {
+        if n < 1000000000 {
+            self.at = lines::writing::put_number(self.out, self.at, n as u32);
+            return;
         }
-        _ => put_value(out, first, answers::first_place(Err(refusal)), b'\n'),
+        self.digits(n / 10);
+        self.at = lines::writing::put_number(self.out, self.at, (n % 10) as u32);
     }
+
+    // The key of a line, or other bytes of it.
+    pub(crate) fn key(&mut self, key: &[u8])
+        ensures { Puts (length key.now) key.now self.old self.new }
+    {
+        self.at = lines::writing::put_bytes(self.out, self.at, key);
+    }
+
+    // A number and the byte that closes it.
+    fn value(&mut self, n: usize, close: u8)
+        ensures { Puts 21 (digits n ++ close ∷ []) self.old self.new }
+    {
+        self.digits(n);
+        self.key(&[close]);
+    }
+
+    // A spare and the byte that closes it.
+    fn spare(&mut self, z: i32, close: u8)
+        ensures { Puts 22 (signed z ++ close ∷ []) self.old self.new }
+    {
+        let size = z.unsigned_abs() as usize;
+        if z < 0 {
+            self.key(b"-");
+            self.value(size, close);
+            return;
+        }
+        self.value(size, close);
+    }
+
+    // A letter and the comma after it.
+    fn letter(&mut self, letter: u8)
+        ensures { Puts 2 ((letter ∷ []) ++ 44 ∷ []) self.old self.new }
+    {
+        self.key(&[letter, b',']);
+    }
+
+    // `interval=start,end,hi,lo`
+    pub(crate) fn interval_line(&mut self, x: Interval, hi: i32, lo: i32)
+        ensures { Puts longest (interval_line x hi lo) self.old self.new }
+    {
+        self.key(b"interval=");
+        self.value(usize::from(x.start), b',');
+        self.value(usize::from(x.end), b',');
+        self.spare(hi, b',');
+        self.spare(lo, b'\n');
+    }
+
+    // `step=slot,job,phase,hi,lo`: what was chosen, the phase and the current spares before the slot. `run` is the run before it.
+    pub(crate) fn step_line(&mut self, run: &Run, choice: &Choice)
+        ensures { Puts longest (step_line_from run.now choice.now) self.old self.new }
+    {
+        self.key(b"step=");
+        self.value(usize::from(run.t), b',');
+        self.value(usize::from(job_number(choice.slot)), b',');
+        self.letter(phase_letter(run.phase));
+        self.spare(choice.hi, b',');
+        self.spare(choice.lo, b'\n');
+    }
+
+    // `job=number,standing,given`
+    pub(crate) fn job_line(&mut self, number: usize, e: Entry)
+        ensures { Puts longest (job_line number e) self.old self.new }
+    {
+        self.key(b"job=");
+        self.value(number, b',');
+        self.letter(standing_letter(e.standing));
+        self.value(usize::from(e.given), b'\n');
+    }
+
+    // `refused=number,place`, and where there are two places, as with Overfull, both
+    pub(crate) fn refused_line(&mut self, refusal: Refusal)
+        ensures { Puts longest (refused_line (Err refusal)) self.old self.new }
+    {
+        let number = answers::number_of(Err(refusal));
+        self.key(b"refused=");
+        self.value(usize::from(number), b',');
+        match refusal {
+            Refusal::Overfull(a, b) => {
+                self.value(usize::from(a), b',');
+                self.value(usize::from(b), b'\n');
+            }
+            _ => self.value(answers::first_place(Err(refusal)), b'\n'),
+        }
+    }
+}
+
+// A refusal's line alone, at the start of an output that has room for it.
+pub(crate) fn put_refusal(out: &mut [u8], refusal: Refusal) -> usize
+    requires { longest ≤ length out.old }
+    ensures { Piece longest 0 (refused_line (Err refusal)) out.old result out.new }
+{
+    let mut sheet = Sheet { out, at: 0 };
+    sheet.refused_line(refusal);
+    sheet.at
 }

@@ -11,7 +11,7 @@ ghost use Rattle.console.specs.declared.run.Stage.TheVariants.{Running};
 ghost use Rattle.plan_text.specs.Reader.{plan_prefix};
 ghost use Rattle.plan_text.specs.DecidedLaws.{is_final};
 
-use crate::print::{put_job_line, put_refused_line, put_step_line};
+use crate::print::{Sheet, put_refusal};
 use crate::reports::report_field;
 use answers::Refusal;
 use entries::Entry;
@@ -71,7 +71,7 @@ fn refused(c: Console, refusal: Refusal, out: &mut [u8; RUN_ROOM]) -> Turn
             ..c
         },
         used: 0,
-        printed: put_refused_line(out, 0, refusal),
+        printed: put_refusal(out, refusal),
     }
 }
 
@@ -134,15 +134,19 @@ fn stepped(c: Console, report: Report, used: usize, out: &mut [u8; RUN_ROOM]) ->
     let after = c.run.step(report);
     match after.answer {
         Err(refusal) => refused(c, refusal, out),
-        Ok(()) => Turn {
-            console: Console {
-                stage: Stage::Running,
-                run: after.run,
-                line: line_after(c.line),
-            },
-            used,
-            printed: put_step_line(out, 0, &c.run, &after.choice),
-        },
+        Ok(()) => {
+            let mut sheet = Sheet { out, at: 0 };
+            sheet.step_line(&c.run, &after.choice);
+            Turn {
+                console: Console {
+                    stage: Stage::Running,
+                    run: after.run,
+                    line: line_after(c.line),
+                },
+                used,
+                printed: sheet.at,
+            }
+        }
     }
 }
 
@@ -164,11 +168,11 @@ fn put_job_lines(out: &mut [u8; RUN_ROOM], entries: &[Entry]) -> usize
     requires { length entries.now ≤ max_jobs }
     ensures { Piece run_room 0 (job_lines_from 1 entries.now) out.old result out.new }
 {
-    let mut at = 0;
+    let mut sheet = Sheet { out, at: 0 };
     for (i, e) in entries.iter().enumerate() {
-        at = put_job_line(out, at, i + 1, *e);
+        sheet.job_line(i + 1, *e);
     }
-    at
+    sheet.at
 }
 
 // The refusal of a plan that the input ends in; a plan that is complete has none.
@@ -177,7 +181,7 @@ fn put_unread(out: &mut [u8; RUN_ROOM], text: &[u8]) -> usize
 {
     match plan_text::reader::plan_prefix(text).answer {
         Ok(()) => 0,
-        Err(refusal) => put_refused_line(out, 0, refusal),
+        Err(refusal) => put_refusal(out, refusal),
     }
 }
 
@@ -189,7 +193,7 @@ fn put_rest(out: &mut [u8; RUN_ROOM], text: &[u8], c: Console) -> usize
         let jobs = JOBS.min(usize::from(c.run.plan.jobs));
         return put_job_lines(out, &c.run.entry[..jobs]);
     }
-    put_refused_line(out, 0, Refusal::Form(c.line))
+    put_refusal(out, Refusal::Form(c.line))
 }
 
 impl Console {

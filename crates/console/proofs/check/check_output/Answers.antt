@@ -11,7 +11,7 @@ returns-in_default c =
 
 pub returns-in-Err : goal.returns-in-Err
 returns-in-Err c =
-    let line = piece_is (check_refused _ _ c.read_plan-read.ensures _ c.in-Err.is) c.put_refused_line.ensures in
+    let line = piece_is (check_refused _ _ c.read_plan-read.ensures _ c.in-Err.is) c.put_refusal.ensures in
     let all = check_written_lem _ _ _ c.in-Some.ensures.cases _ _ _ (omega arith) line in
     record { value = all.0; out_after = all.1.0; counts_in = all.1.1 }
 

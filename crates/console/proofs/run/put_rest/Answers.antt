@@ -19,4 +19,4 @@ returns-then-text-eq0 c =
 
 pub returns : goal.returns
 returns c =
-    piece_within (piece_is (rest_bad c.args.c c.args.text.now c.if-text-eq0.false) c.put_refused_line.ensures) (omega arith)
+    piece_within (piece_is (rest_bad c.args.c c.args.text.now c.if-text-eq0.false) c.put_refusal.ensures) (omega arith)

@@ -8,4 +8,4 @@ pub returns-in-Ok : goal.returns-in-Ok
 returns-in-Ok c = piece_within (piece_is (unread_none _ _ c.plan_prefix.ensures _ c.in-Ok.is) (piece_none 0 _ (omega arith))) (omega arith)
 
 pub returns-in-Err : goal.returns-in-Err
-returns-in-Err c = piece_within (piece_is (unread_refused _ _ c.plan_prefix.ensures _ c.in-Err.is) c.put_refused_line.ensures) (omega arith)
+returns-in-Err c = piece_within (piece_is (unread_refused _ _ c.plan_prefix.ensures _ c.in-Err.is) c.put_refusal.ensures) (omega arith)

@@ -5,4 +5,4 @@ use Rattle.console.specs.Turns.{told_line}
 use Rattle.console.proofs.run.refused.Goals as goal
 
 pub returns : goal.returns
-returns c = told_line _ _ (omega arith) c.put_refused_line.ensures refl refl refl
+returns c = told_line _ _ (omega arith) c.put_refusal.ensures refl refl refl

@@ -10,5 +10,5 @@ returns-in-Err c = told_is (step_refused c.args.c c.args.used _ _ c.step-after.e
 
 pub returns-in-Ok : goal.returns-in-Ok
 returns-in-Ok c =
-    let line = piece_is (step_line_lem _ _ _ c.step-after.ensures _ c.in-Ok.is) c.put_step_line.ensures in
+    let line = piece_is (step_line_lem _ _ _ c.step-after.ensures _ c.in-Ok.is) (c.step_line.ensures.piece (omega arith)) in
     told_is (step_taken c.args.c c.args.used _ _ c.step-after.ensures _ c.in-Ok.is _ c.line_after.ensures) (told_line _ _ (omega arith) line refl refl refl)
