@@ -3,8 +3,7 @@ ghost use Rattle.std.specs.Prelude.{◌≤◌, length};
 
 use super::print;
 use std::fs::File;
-use std::io;
-use std::io::{Eprint, Read};
+use std::io::{self, Eprint, Read};
 use std::rt::Files;
 
 // How the text is answered.
