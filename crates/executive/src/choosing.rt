@@ -27,8 +27,8 @@ impl Going {
     ghost use Rattle.executive.specs.Choice.{chosen_t, chosen_h, chosen, made_choice};
 
     // Phase T.
-    fn chosen_t(self) -> Slot
-        ensures { result ≡ chosen_t self.run }
+    fn chosen_t(&self) -> Slot
+        ensures { result ≡ chosen_t self.now.run }
     {
         let r = &self.run;
         let k = r.plan.table[usize::from(r.t)];
@@ -39,8 +39,8 @@ impl Going {
     }
 
     // Phase H.
-    fn chosen_h(self) -> Slot
-        ensures { result ≡ chosen_h self.run }
+    fn chosen_h(&self) -> Slot
+        ensures { result ≡ chosen_h self.now.run }
     {
         let r = &self.run;
         if open_to_all(self.hi, self.lo) {
@@ -50,8 +50,8 @@ impl Going {
         earliest(&r.plan.job, ready_hi)
     }
 
-    fn chosen(self) -> Slot
-        ensures { result ≡ chosen self.run }
+    fn chosen(&self) -> Slot
+        ensures { result ≡ chosen self.now.run }
     {
         match self.run.phase {
             Phase::T => self.chosen_t(),
@@ -60,8 +60,8 @@ impl Going {
     }
 
     // The slot, how many jobs are ready, and the current spares.
-    pub(crate) fn choice(self) -> Choice
-        ensures { result ≡ made_choice self.run }
+    pub(crate) fn choice(&self) -> Choice
+        ensures { result ≡ made_choice self.now.run }
     {
         let slot = self.chosen();
         Choice {

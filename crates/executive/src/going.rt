@@ -1,5 +1,6 @@
 // A run that can go on: the tests 10 and 11, and what its slot goes by.
-ghost use Rattle.std.specs.Prelude.{◌≡◌, ◌<◌, true, false};
+ghost use Rattle.std.specs.Prelude.{◌≡◌, ◌<◌, true, false, length};
+ghost use Rattle.plan.specs.Limits.{max_slots, max_jobs};
 ghost use Rattle.intervals.specs.Layout.{layout_of};
 ghost use Rattle.ready.specs.Ready.{set_of};
 ghost use Rattle.executive.specs.Run.{current_hi, current_lo};
@@ -20,6 +21,9 @@ pub(crate) struct Going {
     pub hi: Spare,
     pub lo: Spare,
     pub ready: u32,
+    pub ghost table_whole: { length run.plan.table ≡ max_slots },
+    pub ghost jobs_whole: { length run.plan.job ≡ max_jobs },
+    pub ghost entries_whole: { length run.entry ≡ max_jobs },
     pub ghost coherent: { coherent run ≡ true },
     pub ghost before: { run.t < run.plan.slots },
     pub ghost laid: { layout ≡ layout_of run.plan },

@@ -5,6 +5,7 @@ use Rattle.std.proofs.Common.{rules, ◌≡◌, refl, sym, ap, ◌∙◌, le-ltb
 use Rattle.std.proofs.Math.Bool.{true, false}
 use Rattle.std.proofs.lemmas.Result.{err_from_is_err_and}
 use Rattle.answers.specs.declared.Refusal.{Refusal}
+use Rattle.words.specs.ListLaws.{long}
 use Rattle.intervals.specs.declared.Layout.{Layout}
 use Rattle.intervals.specs.Layout.{layout_of}
 use Rattle.spares.specs.InLayoutLaws.{current_of_layout}
@@ -44,6 +45,9 @@ unfolding members
 invariant_of-result c =
     let l = laid (goal.at.invariant_of-result c).In_ok-layout in
     record {
+      table_whole = search rules;
+      jobs_whole = search (rules, long);
+      entries_whole = search (rules, long);
       coherent = l.0;
       before = c.if-self.false;
       laid = l.1;
