@@ -23,14 +23,14 @@ fn open_to_all(hi: Spare, lo: Spare) -> bool
     0 < hi && 0 <= lo
 }
 
-impl Going {
+impl Going<'_> {
     ghost use Rattle.executive.specs.Choice.{chosen_t, chosen_h, chosen, made_choice};
 
     // Phase T.
-    fn chosen_t(self) -> Slot
-        ensures { result ≡ chosen_t self.run }
+    fn chosen_t(&self) -> Slot
+        ensures { result ≡ chosen_t self.now.run.now }
     {
-        let r = &self.run;
+        let r = self.run;
         let k = r.plan.table[usize::from(r.t)];
         if has_slot(k, r.entry[index(k)]) {
             return Slot::Job(k);
@@ -39,10 +39,10 @@ impl Going {
     }
 
     // Phase H.
-    fn chosen_h(self) -> Slot
-        ensures { result ≡ chosen_h self.run }
+    fn chosen_h(&self) -> Slot
+        ensures { result ≡ chosen_h self.now.run.now }
     {
-        let r = &self.run;
+        let r = self.run;
         if open_to_all(self.hi, self.lo) {
             return earliest(&r.plan.job, self.ready);
         }
@@ -50,8 +50,8 @@ impl Going {
         earliest(&r.plan.job, ready_hi)
     }
 
-    fn chosen(self) -> Slot
-        ensures { result ≡ chosen self.run }
+    fn chosen(&self) -> Slot
+        ensures { result ≡ chosen self.now.run.now }
     {
         match self.run.phase {
             Phase::T => self.chosen_t(),
@@ -60,8 +60,8 @@ impl Going {
     }
 
     // The slot, how many jobs are ready, and the current spares.
-    pub(crate) fn choice(self) -> Choice
-        ensures { result ≡ made_choice self.run }
+    pub(crate) fn choice(&self) -> Choice
+        ensures { result ≡ made_choice self.now.run.now }
     {
         let slot = self.chosen();
         Choice {

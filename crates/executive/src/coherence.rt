@@ -1,6 +1,9 @@
 // When the record of a run is coherent, on any record: the entries, the rows worked out afresh, and the whole test.
 ghost use Rattle.std.specs.Prelude.{◌≡◌, ◌≤◌, if◌then◌else◌, Some, None};
 ghost use Rattle.plan.specs.Limits.{max_jobs};
+ghost use Rattle.executive.specs.Run.{fresh_hi, fresh_lo};
+ghost use Rattle.executive.specs.MemberLaws.{Full};
+ghost use Rattle.executive.specs.Sound.{Whole};
 ghost use Rattle.intervals.specs.Layout.{layout_of};
 ghost use Rattle.executive.specs.Coherent.{all_hold, coherent};
 ghost use Rattle.executive.specs.Step.{refreshed};
@@ -21,24 +24,27 @@ fn entries_hold(t: u16, job: &[Job], entry: &[Entry]) -> bool
 }
 
 impl Run {
+    // Both rows of the run, worked out afresh.
+    fn fresh_rows(&self, layout: &Layout) -> Rows
+        requires { (Full self.now) × (layout.now ≡ layout_of self.now.plan) }
+        ensures { (result.hi ≡ fresh_hi self.now) × (result.lo ≡ fresh_lo self.now) }
+    {
+        spares::rows_of(layout, self.t, &self.plan.job, &self.entry, self.plan.jobs)
+    }
+
     // Both rows are the fresh ones.
     pub(crate) fn refreshed(self, layout: Layout) -> Run
         requires { (self.plan.jobs ≤ max_jobs) × (layout ≡ layout_of self.plan) }
         ensures { result ≡ refreshed self }
     {
-        let Rows { hi, lo } = spares::rows_of(
-            &layout,
-            self.t,
-            &self.plan.job,
-            &self.entry,
-            self.plan.jobs,
-        );
+        let Rows { hi, lo } = self.fresh_rows(&layout);
         Run { hi, lo, ..self }
     }
 
     // The layout of a coherent run's plan, worked out once; None where a clause of coherence fails.
-    pub(crate) fn coherent_layout(self) -> Option<Layout>
-        ensures { result ≡ (if coherent self then Some (layout_of self.plan) else None) }
+    pub(crate) fn coherent_layout(&self) -> Option<Layout>
+        requires { Whole self.now }
+        ensures { result ≡ (if coherent self.now then Some (layout_of self.now.plan) else None) }
     {
         well_formed::well_formed(self.plan).ok()?;
         if self.plan.slots < self.t {
@@ -48,7 +54,7 @@ impl Run {
             return None;
         }
         let layout = intervals::layout_of(&self.plan);
-        let fresh = self.refreshed(layout);
+        let fresh = self.fresh_rows(&layout);
         if !spares::same_row(&self.hi, &fresh.hi) {
             return None;
         }

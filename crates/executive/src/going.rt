@@ -5,6 +5,7 @@ ghost use Rattle.ready.specs.Ready.{set_of};
 ghost use Rattle.executive.specs.Run.{current_hi, current_lo};
 ghost use Rattle.executive.specs.Coherent.{coherent};
 ghost use Rattle.executive.specs.Choice.{members};
+ghost use Rattle.executive.specs.Sound.{Whole};
 
 use crate::Run;
 use answers::Refusal;
@@ -14,18 +15,19 @@ use spares::Spare;
 
 // A coherent run before its last border, the layout of its plan, the current spares, and the set of the ready jobs.
 #[derive(Clone, Copy)]
-pub(crate) struct Going {
-    pub run: Run,
+pub(crate) struct Going<'a> {
+    pub run: &'a Run,
     pub layout: Layout,
     pub hi: Spare,
     pub lo: Spare,
     pub ready: u32,
-    pub ghost coherent: { coherent run ≡ true },
-    pub ghost before: { run.t < run.plan.slots },
-    pub ghost laid: { layout ≡ layout_of run.plan },
-    pub ghost hi_now: { hi ≡ current_hi run },
-    pub ghost lo_now: { lo ≡ current_lo run },
-    pub ghost ready_now: { ready ≡ set_of (members false run) },
+    pub ghost whole: { Whole run.now },
+    pub ghost coherent: { coherent run.now ≡ true },
+    pub ghost before: { run.now.t < run.now.plan.slots },
+    pub ghost laid: { layout ≡ layout_of run.now.plan },
+    pub ghost hi_now: { hi ≡ current_hi run.now },
+    pub ghost lo_now: { lo ≡ current_lo run.now },
+    pub ghost ready_now: { ready ≡ set_of (members false run.now) },
 }
 
 impl Run {
@@ -33,9 +35,10 @@ impl Run {
     ghost use Rattle.executive.specs.Choice.{can_go_on};
 
     // 10, then 11.
-    pub(crate) fn going(self) -> Result<Going, Refusal>
-        ensures going { IfOk result (λ g. g.run ≡ self) }
-        ensures refused { IfErr result (λ e. Err e ≡ can_go_on self) }
+    pub(crate) fn going(&self) -> Result<Going<'_>, Refusal>
+        requires { Whole self.now }
+        ensures going { IfOk result (λ g. g.run.now ≡ self.now) }
+        ensures refused { IfErr result (λ e. Err e ≡ can_go_on self.now) }
     {
         let layout = self.coherent_layout().ok_or(Refusal::Incoherent)?;
         if self.plan.slots <= self.t {

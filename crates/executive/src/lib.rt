@@ -9,6 +9,7 @@ ghost use Rattle.executive.specs.Run.{blank_run, start};
 ghost use Rattle.executive.specs.Coherent.{coherent};
 ghost use Rattle.executive.specs.Choice.{no_choice, choose};
 ghost use Rattle.executive.specs.Step.{refused_step, step};
+ghost use Rattle.executive.specs.Sound.{Whole};
 
 use acceptance::Analysis;
 use answers::{Answer, Refusal};
@@ -145,9 +146,10 @@ impl Run {
     }
 
     // The next run and the choice that was made, or 10 to 13.
-    fn try_step(self, report: Report) -> Result<(Run, Choice), Refusal>
-        ensures stepped { IfOk result (λ s. ◌≡◌ {A = Stepped} (record { answer = Accepted; run = s.0; choice = s.1 }) (step self report)) }
-        ensures refused { IfErr result (λ e. refused_step self (Err e) ≡ step self report) }
+    fn try_step(&self, report: Report) -> Result<(Run, Choice), Refusal>
+        requires { Whole self.now }
+        ensures stepped { IfOk result (λ s. ◌≡◌ {A = Stepped} (record { answer = Accepted; run = s.0; choice = s.1 }) (step self.now report)) }
+        ensures refused { IfErr result (λ e. refused_step self.now (Err e) ≡ step self.now report) }
     {
         let going = self.going()?;
         if report.slot != self.t {

@@ -132,14 +132,14 @@ impl Run {
     }
 }
 
-impl Going {
+impl Going<'_> {
     ghost use Rattle.executive.specs.Choice.{chosen};
     ghost use Rattle.executive.specs.Step.{next_run};
 
     // The run after an accepted report of the slot that was chosen: the report, expiry, the phase, then both rows.
-    pub(crate) fn next_run(self, slot: Slot, kind: Kind) -> Run
-        requires { slot ≡ chosen self.run }
-        ensures { result ≡ next_run self.run slot kind }
+    pub(crate) fn next_run(&self, slot: Slot, kind: Kind) -> Run
+        requires { slot ≡ chosen self.now.run.now }
+        ensures { result ≡ next_run self.now.run.now slot kind }
     {
         let told = self.run.reported(slot, kind);
         let left = told.expired();

@@ -1,42 +1,34 @@
 -- `coherent_layout` meets its contract: the clauses in order, each early return the first that fails.
-use Rattle.std.proofs.Common.{rules, ◌≡◌, ◌≤◌, sym, ap, ◌∙◌}
+use Rattle.std.proofs.Common.{◌≡◌, ◌≤◌, sym, ap, ◌∙◌}
 use Rattle.std.proofs.Math.Bool.{true}
 use borrow.Author.Tests.{le-leb, lt-leb}
 use Rattle.answers.specs.Answer.{accepted}
 use Rattle.well_formed.specs.WellFormed.{well_formed}
 use Rattle.well_formed.specs.InOrderLaws.{in_order}
-use Rattle.words.specs.ListLaws.{long}
 use Rattle.plan.specs.Limits.{max_jobs}
-use Rattle.executive.specs.Run.{fresh_hi, fresh_lo}
 use Rattle.executive.specs.Coherent.{entries_hold, coherent}
 use Rattle.spares.specs.Spares.{same_row}
-use Rattle.executive.specs.declared.Run.{Run}
-use Rattle.executive.specs.Step.{refreshed}
 use Rattle.executive.proofs.Run.coherent_layout.Goals as goal
-use Rattle.executive.proofs.Run.coherent_layout.Goals.{After-refreshed-fresh, After-entries_hold, Else-not-entries_hold, In_ok-ok}
+use Rattle.executive.proofs.Run.coherent_layout.Goals.{After-entries_hold, Else-not-entries_hold, In_ok-ok}
 
-passes : (c : In_ok-ok) → accepted (well_formed c.args.self.plan) ≡ true
+passes : (c : In_ok-ok) → accepted (well_formed c.args.self.now.plan) ≡ true
 unfolding accepted
 passes c = sym (ap accepted c.well_formed-2.ensures) ∙ sym c.in_ok-ok.ensures.variant
 
-few : (c : In_ok-ok) → c.args.self.plan.jobs ≤ max_jobs
-few c = (in_order _ (search (rules, long)) (search rules) (passes c)).jobs.1
+few : (c : In_ok-ok) → c.args.self.now.plan.jobs ≤ max_jobs
+few c = (in_order _ c.requires.jobs c.requires.table (passes c)).jobs.1
 
 -- the entries' test is that of the run
-held : (c : After-entries_hold) → c.entries_hold.result ≡ entries_hold c.args.self
+held : (c : After-entries_hold) → c.entries_hold.result ≡ entries_hold c.args.self.now
 unfolding entries_hold
 held c = rw c.jobs.ensures at c.entries_hold.ensures
 
-holds : (c : Else-not-entries_hold) → entries_hold c.args.self ≡ true
+holds : (c : Else-not-entries_hold) → entries_hold c.args.self.now ≡ true
 holds c = sym (held c.before) ∙ c.if-not-entries_hold.false
 
--- the rows are the fresh ones
-fresh : (c : After-refreshed-fresh) → let r = c.args.self in (c.refreshed-fresh.result.hi ≡ fresh_hi r) × (c.refreshed-fresh.result.lo ≡ fresh_lo r)
-unfolding refreshed
-fresh c = (ap (λ (x : Run). x.hi) c.refreshed-fresh.ensures, ap (λ (x : Run). x.lo) c.refreshed-fresh.ensures)
-
-pub refreshed-fresh-requires : goal.refreshed-fresh-requires
-refreshed-fresh-requires c = (few (goal.at.refreshed-fresh-requires c).In_ok-ok, c.layout_of-layout.ensures)
+pub fresh_rows-fresh-requires : goal.fresh_rows-fresh-requires
+fresh_rows-fresh-requires c =
+    (record { few = few (goal.at.fresh_rows-fresh-requires c).In_ok-ok; jobs = c.requires.jobs; entries = c.requires.entries }, c.layout_of-layout.ensures)
 
 pub returns-in_err-ok : goal.returns-in_err-ok
 unfolding coherent accepted
@@ -56,16 +48,16 @@ pub returns-then-not-same_row : goal.returns-then-not-same_row
 unfolding coherent
 returns-then-not-same_row c =
     let at = goal.at.returns-then-not-same_row c in
-    rw (passes at.In_ok-ok, le-leb _ _ c.if-self.false, holds at.Else-not-entries_hold, ap (same_row _) (sym (fresh at.After-refreshed-fresh).0), sym c.same_row.ensures ∙ c.if-not-same_row.true)
+    rw (passes at.In_ok-ok, le-leb _ _ c.if-self.false, holds at.Else-not-entries_hold, ap (same_row _) (sym c.fresh_rows-fresh.ensures.0), sym c.same_row.ensures ∙ c.if-not-same_row.true)
 
 pub returns-then-not-same_row-2 : goal.returns-then-not-same_row-2
 unfolding coherent
 returns-then-not-same_row-2 c =
     let at = goal.at.returns-then-not-same_row-2 c in
-    rw (passes at.In_ok-ok, le-leb _ _ c.if-self.false, holds at.Else-not-entries_hold, ap (same_row _) (sym (fresh at.After-refreshed-fresh).0), sym c.same_row.ensures ∙ c.if-not-same_row.false, ap (same_row _) (sym (fresh at.After-refreshed-fresh).1), sym c.same_row-2.ensures ∙ c.if-not-same_row-2.true)
+    rw (passes at.In_ok-ok, le-leb _ _ c.if-self.false, holds at.Else-not-entries_hold, ap (same_row _) (sym c.fresh_rows-fresh.ensures.0), sym c.same_row.ensures ∙ c.if-not-same_row.false, ap (same_row _) (sym c.fresh_rows-fresh.ensures.1), sym c.same_row-2.ensures ∙ c.if-not-same_row-2.true)
 
 pub returns : goal.returns
 unfolding coherent
 returns c =
     let at = goal.at.returns c in
-    rw (passes at.In_ok-ok, le-leb _ _ c.if-self.false, holds at.Else-not-entries_hold, ap (same_row _) (sym (fresh at.After-refreshed-fresh).0), sym c.same_row.ensures ∙ c.if-not-same_row.false, ap (same_row _) (sym (fresh at.After-refreshed-fresh).1), sym c.same_row-2.ensures ∙ c.if-not-same_row-2.false, c.layout_of-layout.ensures)
+    rw (passes at.In_ok-ok, le-leb _ _ c.if-self.false, holds at.Else-not-entries_hold, ap (same_row _) (sym c.fresh_rows-fresh.ensures.0), sym c.same_row.ensures ∙ c.if-not-same_row.false, ap (same_row _) (sym c.fresh_rows-fresh.ensures.1), sym c.same_row-2.ensures ∙ c.if-not-same_row-2.false, c.layout_of-layout.ensures)

@@ -25,25 +25,26 @@ kept : (b : Bool) (l : Layout) (e : Refusal) → ok_or (if b then Some l else No
 kept true l e p = cc
 kept false l e p = (refl, cc)
 
-laid : (c : In_ok-layout) → (coherent c.args.self ≡ true) × (c.in_ok-layout.layout ≡ layout_of c.args.self.plan)
+laid : (c : In_ok-layout) → (coherent c.args.self.now ≡ true) × (c.in_ok-layout.layout ≡ layout_of c.args.self.now.plan)
 laid c =
-    given (coherent c.args.self) (layout_of c.args.self.plan) c.in_ok-layout.layout
+    given (coherent c.args.self.now) (layout_of c.args.self.now.plan) c.in_ok-layout.layout
     (sym (c.ok_or.ensures.value ∙ ap (λ (o : Option Layout). ok_or o Refusal.Incoherent) c.coherent_layout.ensures) ∙ c.in_ok-layout.was)
 
 pub returns-in_err-layout-clause-refused : goal.returns-in_err-layout-clause-refused
 returns-in_err-layout-clause-refused c =
     let p = err_from_is_err_and c.from_residual.result c.from_residual.ensures.1 in
-    let k = kept (coherent c.args.self) (layout_of c.args.self.plan) c.in_err-layout.field-0.0 (sym (c.ok_or.ensures.value ∙ ap (λ (o : Option Layout). ok_or o Refusal.Incoherent) c.coherent_layout.ensures) ∙ c.in_err-layout.was) in
-    rw (p.1, p.2, k.1) (is_incoherent c.args.self k.0)
+    let k = kept (coherent c.args.self.now) (layout_of c.args.self.now.plan) c.in_err-layout.field-0.0 (sym (c.ok_or.ensures.value ∙ ap (λ (o : Option Layout). ok_or o Refusal.Incoherent) c.coherent_layout.ensures) ∙ c.in_err-layout.was) in
+    rw (p.1, p.2, k.1) (is_incoherent c.args.self.now k.0)
 
 pub returns-then-self-clause-refused : goal.returns-then-self-clause-refused
-returns-then-self-clause-refused c = is_over c.args.self (laid (goal.at.returns-then-self-clause-refused c).In_ok-layout).0 (le-ltb _ _ c.if-self.true)
+returns-then-self-clause-refused c = is_over c.args.self.now (laid (goal.at.returns-then-self-clause-refused c).In_ok-layout).0 (le-ltb _ _ c.if-self.true)
 
 pub invariant_of-result : goal.invariant_of-result
 unfolding members
 invariant_of-result c =
     let l = laid (goal.at.invariant_of-result c).In_ok-layout in
     record {
+      whole = c.requires;
       coherent = l.0;
       before = c.if-self.false;
       laid = l.1;

@@ -10,23 +10,23 @@ use Rattle.executive.proofs.Run.try_step.Goals as goal
 use Rattle.executive.proofs.Run.try_step.Goals.{In_ok-going}
 
 -- the run that goes on is this one
-holds : (c : In_ok-going) → (coherent c.args.self ≡ true) × (c.args.self.t < c.args.self.plan.slots)
+holds : (c : In_ok-going) → (coherent c.args.self.now ≡ true) × (c.args.self.now.t < c.args.self.now.plan.slots)
 holds c = let e = c.in_ok-going.ensures.going in (rw e at c.in_ok-going.going.coherent, rw e at c.in_ok-going.going.before)
 
 pub returns-in_err-going-clause-refused : goal.returns-in_err-going-clause-refused
 returns-in_err-going-clause-refused c =
     let p = err_from_is_err_and c.from_residual.result c.from_residual.ensures.1 in
-    rw (p.1, p.2) (step_refused c.args.self _ c.in_err-going.ensures.refused c.args.report)
+    rw (p.1, p.2) (step_refused c.args.self.now _ c.in_err-going.ensures.refused c.args.report)
 
 pub returns-then-report-self-clause-refused : goal.returns-then-report-self-clause-refused
 returns-then-report-self-clause-refused c =
     let h = holds (goal.at.returns-then-report-self-clause-refused c).In_ok-going in
-    other_refused c.args.self h.0 h.1 c.args.report (ne_eqb _ _ c.if-report-self.true)
+    other_refused c.args.self.now h.0 h.1 c.args.report (ne_eqb _ _ c.if-report-self.true)
 
 pub returns-then-not-kind_fits-clause-refused : goal.returns-then-not-kind_fits-clause-refused
 returns-then-not-kind_fits-clause-refused c =
     let h = holds (goal.at.returns-then-not-kind_fits-clause-refused c).In_ok-going in
-    kind_refused c.args.self h.0 h.1 c.args.report (eq-eqb _ _ c.if-report-self.false) _ (c.choice-choice.ensures ∙ ap made_choice c.in_ok-going.ensures.going) (sym c.kind_fits.ensures ∙ c.if-not-kind_fits.true)
+    kind_refused c.args.self.now h.0 h.1 c.args.report (eq-eqb _ _ c.if-report-self.false) _ (c.choice-choice.ensures ∙ ap made_choice c.in_ok-going.ensures.going) (sym c.kind_fits.ensures ∙ c.if-not-kind_fits.true)
 
 pub next_run-next-requires : goal.next_run-next-requires
 next_run-next-requires c = slot_chosen _ _ c.choice-choice.ensures
@@ -35,4 +35,7 @@ pub returns-clause-stepped : goal.returns-clause-stepped
 returns-clause-stepped c =
     let h = holds (goal.at.returns-clause-stepped c).In_ok-going in
     let e = c.in_ok-going.ensures.going in
-    stepped c.args.self h.0 h.1 c.args.report (eq-eqb _ _ c.if-report-self.false) _ (c.choice-choice.ensures ∙ ap made_choice e) (sym c.kind_fits.ensures ∙ c.if-not-kind_fits.false) _ (rw e at c.next_run-next.ensures)
+    stepped c.args.self.now h.0 h.1 c.args.report (eq-eqb _ _ c.if-report-self.false) _ (c.choice-choice.ensures ∙ ap made_choice e) (sym c.kind_fits.ensures ∙ c.if-not-kind_fits.false) _ (rw e at c.next_run-next.ensures)
+
+pub going-requires : goal.going-requires
+going-requires c = c.requires

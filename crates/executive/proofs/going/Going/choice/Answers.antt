@@ -7,5 +7,5 @@ use Rattle.executive.proofs.going.Going.choice.Goals as goal
 
 pub returns : goal.returns
 returns c =
-    let g = c.args.self in
+    let g = c.args.self.now in
     choice_is _ _ _ _ _ c.chosen-slot.ensures g.ready_now (to_z-of_z {w = w32} (search rules) ∙ g.hi_now) (to_z-of_z {w = w32} (search rules) ∙ g.lo_now)

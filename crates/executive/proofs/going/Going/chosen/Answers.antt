@@ -6,8 +6,8 @@ use Rattle.executive.proofs.going.Going.chosen.Goals as goal
 
 pub returns-in-T : goal.returns-in-T
 unfolding chosen
-returns-in-T c = c.chosen_t.ensures ∙ sym (ap (λ (h : Phase). chosen_in h c.args.self.run) c.in-T.is)
+returns-in-T c = c.chosen_t.ensures ∙ sym (ap (λ (h : Phase). chosen_in h c.args.self.now.run.now) c.in-T.is)
 
 pub returns-in-H : goal.returns-in-H
 unfolding chosen
-returns-in-H c = c.chosen_h.ensures ∙ sym (ap (λ (h : Phase). chosen_in h c.args.self.run) c.in-H.is)
+returns-in-H c = c.chosen_h.ensures ∙ sym (ap (λ (h : Phase). chosen_in h c.args.self.now.run.now) c.in-H.is)
