@@ -1,15 +1,12 @@
--- The loop that reads things of one kind into an array, once for every kind of thing, array size and blank value.
+-- The loop that reads things of one kind into an array, once for every kind of thing.
 -- A loop's invariant is `Filling`; its laws are the start, one thing more, a refusal, and the end.
 use Rattle.std.specs.Prelude.{◌≡◌, List, [], ◌∷◌, ◌++◌, ℕ, suc, ◌+◌, ◌-◌, ◌≤◌, ◌<◌, length, take, drop, set, replicate}
 use Rattle.std.proofs.Math.Path.{refl}
-use Rattle.std.proofs.Common.{sym, ap, ◌∙◌, append-nil, add-one, arith, take-append-drop, length-set, take-suc-set, drop-set-lt, drop-drop, length-take-le}
+use Rattle.std.proofs.Common.{sym, ap, ◌∙◌, append-nil, add-one, arith, length-set, take-suc-set, take_all}
 use Rattle.std.proofs.Math.Nat.{sub-zero}
-use Rattle.std.proofs.lemmas.List.{length-replicate}
 use Rattle.std.proofs.Math.Seq.{append_snoc}
 use Rattle.answers.specs.Answer.{Answer}
-use Rattle.words.specs.Words.{filled}
 use Rattle.lines.specs.Lines.{Cursor, Read, got, refused, Reader, give, onward, many}
-use Rattle.lines.specs.Reading.{filled_read}
 
 module _ {A : Type 0} where
   -- the things that were read before, in front
@@ -26,13 +23,7 @@ module _ {A : Type 0} where
   after_one front x (got xs here) = ap (λ (ys : List A). got ys here) (sym (append_snoc front x xs))
   after_one front x (refused answer) = refl
 
-  -- what goes on with the array goes on with the things
-  pub onward_filled : {B : Type 0} (size : ℕ) (blank : A) (r : Read (List A)) (rest : List A → Reader B)
-      → onward r (λ xs. rest (filled size blank xs)) ≡ onward (filled_read size blank r) rest
-  onward_filled size blank (got xs here) rest = refl
-  onward_filled size blank (refused answer) rest = refl
-
-  module _ (one : Reader A) (size : ℕ) (blank : A) (count : ℕ) (start : Cursor) where
+  module _ (one : Reader A) (count : ℕ) (start : Cursor) where
     many_on : (k : ℕ) (here there : Cursor) (x : A) → one here ≡ got x there
         → many (suc k) one here ≡ onward (many k one there) (λ others. give (x ∷ others))
     unfolding many
@@ -46,52 +37,39 @@ module _ {A : Type 0} where
     unfolding many
     many_end here = refl
 
-    blank_on : (i : ℕ) → i < size → drop {A = A} 1 (replicate (size - i) blank) ≡ replicate (size - (i + 1)) blank
-    blank_on i h = let e : size - i ≡ suc (size - (i + 1)) = omega arith in rw e
-
-    -- what holds at the loop's head: i things stand in the array, the rest of it is blank, the reader stands at `here`
+    -- what holds at the loop's head: i things stand in front in the array, the reader stands at `here`
     pub record Filling (array : List A) (here : Cursor) (i : ℕ) : Type 0 where
       pub low : i ≤ count
       pub read : many count one start ≡ after (take i array) (many (count - i) one here)
-      pub blanks : drop i array ≡ replicate (size - i) blank
-      pub long : length array ≡ size
+      pub long : length array ≡ count
 
-    pub filling_starts : Filling (replicate size blank) start 0
-    filling_starts =
+    pub filling_starts : (array : List A) → length array ≡ count → Filling array start 0
+    filling_starts array h =
         record {
           low = omega arith;
           read = rw sub-zero (after_none (many count one start));
-          blanks = rw sub-zero;
-          long = length-replicate size blank;
+          long = h;
         }
 
-    module _ (few : count ≤ size) (array : List A) (here : Cursor) (i : ℕ) (inv : Filling array here i) where
+    module _ (array : List A) (here : Cursor) (i : ℕ) (inv : Filling array here i) where
       pub filling_on : (x : A) (there : Cursor) → i < count → one here ≡ got x there → Filling (set array i x) there (i + 1)
       filling_on x there h e =
           let left : count - i ≡ suc (count - (i + 1)) = omega arith in
-          let d : i < length array = rw inv.long (omega arith) in
+          let d : i < length array = rw inv.long h in
           let front : take (i + 1) (set array i x) ≡ take i array ++ (x ∷ []) = rw add-one (take-suc-set array i x d) in
-          let more : i < i + 1 = omega arith in
           record {
             low = omega arith;
             read = inv.read ∙ rw (left, many_on (count - (i + 1)) here there x e, after_one (take i array) x, front);
-            blanks =
-                drop-set-lt (i + 1) array i x more
-                ∙ sym (drop-drop 1 i array)
-                ∙ ap (drop {A = A} 1) inv.blanks
-                ∙ blank_on i (omega arith);
             long = length-set array i x ∙ inv.long;
           }
 
-      pub filling_stops : (answer : Answer) → i < count → one here ≡ refused answer
-          → filled_read size blank (many count one start) ≡ refused answer
+      pub filling_stops : (answer : Answer) → i < count → one here ≡ refused answer → many count one start ≡ refused answer
       filling_stops answer h e =
           let left : count - i ≡ suc (count - (i + 1)) = omega arith in
           rw (inv.read, left, many_stop (count - (i + 1)) here answer e)
 
-      pub filling_ends : count ≤ i → filled_read size blank (many count one start) ≡ got array here
+      pub filling_ends : count ≤ i → many count one start ≡ got array here
       filling_ends h =
           let none : count - i ≡ 0 = omega arith in
-          let n : length (take i array) ≡ i = length-take-le i array (omega (arith, inv.long, inv.low)) in
-          let whole : filled size blank (take i array) ≡ array = rw (n, ← inv.blanks) (take-append-drop i array) in
-          rw (inv.read, none, many_end here, append-nil, whole)
+          let all : take i array ≡ array = take_all i array (omega (arith, inv.long)) in
+          rw (inv.read, none, many_end here, append-nil, all)

@@ -1,8 +1,8 @@
 -- What the reading functions answer, by place: where a value stands in a text, and the number on a line.
 -- The text from place `at` on is `drop at text`; its next line starts at `line_after text at`.
 use Rattle.std.specs.Prelude.{ℕ, ◌+◌, ◌-◌, ◌&&◌, List, length, take, drop, Option, Some, None, option_map, if◌then◌else◌}
-use Rattle.words.specs.Words.{◌<?◌, filled}
-use Rattle.lines.specs.Lines.{Cursor, Read, got, refused, Reader, line_length, begins, value_in, or_form}
+use Rattle.words.specs.Words.{◌<?◌}
+use Rattle.lines.specs.Lines.{Cursor, Reader, line_length, begins, value_in, or_form}
 use Rattle.lines.specs.declared.reading.ValueAt.{ValueAt}
 
 -- where the line after the one at `at` starts
@@ -34,8 +34,3 @@ line_with meaning key = λ here. or_form (value_in meaning key here.text) here
 -- a reader that stands at a place of a text, before line l
 abbrev pub standing : List ℕ → ℕ → ℕ → Cursor
 standing text at l = record { line_no = l; text = drop at text }
-
--- things read into an array of `size`, `blank` beyond them
-abbrev pub filled_read : {A : Type 0} → ℕ → A → Read (List A) → Read (List A)
-filled_read size blank (got xs here) = got (filled size blank xs) here
-filled_read size blank (refused answer) = refused answer

@@ -6,8 +6,8 @@ use Rattle.answers.specs.Answer.{Answer, Accepted, Form}
 use Rattle.plan.specs.declared.Plan.{Plan}
 use Rattle.plan.specs.Limits.{max_slots, max_jobs}
 use Rattle.plan.specs.Plan.{blank_plan}
-use Rattle.lines.specs.Lines.{Read, got, refused, Reader, Cursor, many}
-use Rattle.lines.specs.Reading.{standing, filled_read}
+use Rattle.lines.specs.Lines.{Read, got, refused, Reader, Cursor}
+use Rattle.lines.specs.Reading.{standing}
 use Rattle.plan_text.specs.Read.{next_plan, start_of}
 use Rattle.plan_text.specs.declared.PlanRead.{PlanRead}
 use Rattle.plan_text.specs.declared.reader.PlanPrefix.{PlanPrefix}
@@ -38,9 +38,10 @@ Taken before None answer after = (answer ≡ Err (Refusal.Form before.line)) × 
 
 -- ---- the jobs and the slots
 
--- so many things of one kind in an array, blank beyond them
-abbrev pub many_filled : {A : Type 0} → ℕ → A → ℕ → Reader A → Reader (List A)
-many_filled size blank count one = λ here. filled_read size blank (many count one here)
+-- things read into a lent array
+abbrev pub read_into : {A : Type 0} → List A → Result Unit Refusal → Result (List A) Refusal
+read_into xs (Ok u) = Ok xs
+read_into xs (Err e) = Err e
 
 -- ---- the plan at a place of a text
 

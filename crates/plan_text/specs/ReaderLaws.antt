@@ -1,7 +1,8 @@
 -- Laws of the reader: a line taken is the definitions' field, and one reader goes on after the other.
-use Rattle.std.specs.Prelude.{ℕ, ◌+◌, ◌-◌, drop, false, ◌*◌, ◌≤◌, ◌<◌, ◌≡◌, refl, true, List, length, set, replicate, Option, Some, None, Result, Ok, Err}
+use Rattle.std.specs.Prelude.{ℕ, ◌+◌, ◌-◌, drop, false, ◌*◌, ◌≤◌, ◌<◌, ◌≡◌, refl, true, List, length, take, set, replicate, ◌++◌, Option, Some, None, Result, Ok, Err}
+use Rattle.std.proofs.lemmas.List.{length-replicate, drop-replicate}
 use borrow.Author.Tests.{lt-leb, le-leb, eq-eqb, ne_eqb}
-use Rattle.std.proofs.Common.{length-drop, arith, sym, ◌∙◌, add-one, mul-suc, mul-le-mul_left}
+use Rattle.std.proofs.Common.{length-drop, length-take-le, arith, sym, ◌∙◌, add-one, mul-suc, mul-le-mul_left}
 use Rattle.words.specs.Cases.{never}
 use Rattle.words.specs.Words.{filled, ◌=?◌}
 use Rattle.answers.specs.declared.Refusal.{Refusal}
@@ -9,10 +10,10 @@ use Rattle.answers.specs.Answer.{Answer, accepted}
 use Rattle.lines.specs.Lines.{bytes, got, refused, Reader, give, ◌>>=◌, must, many, nothing_after}
 use Rattle.lines.specs.Reading.{field_at, standing, line_with}
 use Rattle.lines.specs.ReadingLaws.{same_length, field_got, field_refused}
-use Rattle.lines.specs.ManyLaws.{onward_filled, Filling, filling_starts, filling_on, filling_stops, filling_ends}
+use Rattle.lines.specs.ManyLaws.{Filling, filling_starts, filling_on, filling_stops, filling_ends}
 use Rattle.plan.specs.declared.Plan.{Plan}
 use Rattle.plan_text.specs.Read.{level_in, next_plan, only_plan, read_plan}
-use Rattle.plan_text.specs.Reader.{stands, Reads, Taken, many_filled, last_line, plan_lines, plan_from, prefix_told, plan_told}
+use Rattle.plan_text.specs.Reader.{stands, Reads, Taken, last_line, plan_lines, plan_from, prefix_told, plan_told}
 use Rattle.plan_text.specs.declared.reader.Lines.{Lines}
 
 module _ {A : Type 0} (meaning : List ℕ → Option A) (key : List ℕ) (before after : Lines) (answer : Result A Refusal) where
@@ -59,74 +60,71 @@ must_reads (Ok u) here e h = rw e (record { read = refl; text = refl; lines = om
 must_reads (Err r) here e h = rw e (record { read = refl; text = refl; lines = omega arith; within = λ ok. h })
 
 -- a thing that takes no text
-pub given : {A : Type 0} (x : A) (here : Lines) → here.reader.at ≤ length here.reader.text.now → Reads (give x) 0 here (Ok x) here
-given x here h = record { read = refl; text = refl; lines = omega arith; within = λ ok. h }
+pub given : {A : Type 0} {x y : A} (here : Lines) → x ≡ y → here.reader.at ≤ length here.reader.text.now → Reads (give y) 0 here (Ok x) here
+given here e h = rw e (record { read = refl; text = refl; lines = omega arith; within = λ ok. h })
 
--- things read into an array: what goes on with the array goes on with the things
-module _ {A B : Type 0} (size : ℕ) (blank : A) (count : ℕ) (one : Reader A) (rest : List A → Reader B) (k m : ℕ)
-    {before between : Lines} {answer : Result (List A) Refusal} (first : Reads (many_filled size blank count one) k before answer between) where
-  abbrev whole : Reader B
-  whole = many count one >>= (λ xs. rest (filled size blank xs))
+-- ---- things of one kind read into a lent array, `step` lines each
 
-  same : whole (stands before) ≡ (many_filled size blank count one >>= rest) (stands before)
-  same = onward_filled size blank (many count one (stands before)) rest
-
-  pub array_goes_on : {array : List A} → answer ≡ Ok array → {b : Result B Refusal} {after : Lines} → Reads (rest array) m between b after → Reads whole (k + m) before b after
-  array_goes_on e then =
-      let h = goes_on (many_filled size blank count one) rest k m first e then in
-      record { read = h.read ∙ sym same; text = h.text; lines = h.lines; within = h.within }
-
-  pub array_stops : {e : Refusal} → answer ≡ Err e → Reads whole (k + m) before (Err e) between
-  array_stops e =
-      let h = stops (many_filled size blank count one) rest k m first e in
-      record { read = h.read ∙ sym same; text = h.text; lines = h.lines; within = h.within }
-
--- ---- things of one kind read into an array, `step` lines each
-
-module _ {A : Type 0} (one : Reader A) (step size : ℕ) (blank : A) (count : ℕ) (before : Lines) where
+module _ {A : Type 0} (one : Reader A) (step count : ℕ) (before : Lines) where
   -- what holds at the loop's head
   pub record Fills (array : List A) (here : Lines) (i : ℕ) : Type 0 where
-    pub filling : Filling one size blank count (stands before) array (stands here) i
+    pub filling : Filling one count (stands before) array (stands here) i
     pub text : here.reader.text ≡ before.reader.text
     pub lines : here.line ≤ before.line + step * i
     pub within : here.reader.at ≤ length here.reader.text.now
 
-  pub fills_start : before.reader.at ≤ length before.reader.text.now → Fills (replicate size blank) before 0
-  fills_start h = record { filling = filling_starts one size blank count (stands before); text = refl; lines = omega arith; within = h }
+  pub fills_start : (array : List A) → length array ≡ count → before.reader.at ≤ length before.reader.text.now → Fills array before 0
+  fills_start array long h = record { filling = filling_starts one count (stands before) array long; text = refl; lines = omega arith; within = h }
 
-  module _ (few : count ≤ size) (array : List A) (here there : Lines) (i : ℕ) (inv : Fills array here i) (more : i < count) (answer : Result A Refusal) (next : Reads one step here answer there) where
+  module _ (array : List A) (here there : Lines) (i : ℕ) (inv : Fills array here i) (more : i < count) (answer : Result A Refusal) (next : Reads one step here answer there) where
     pub fills_on : (x : A) → answer ≡ Ok x → Fills (set array i x) there (i + 1)
     fills_on x e =
         let r : got x (stands there) ≡ one (stands here) = rw e at next.read in
         let grown : step * (i + 1) ≡ step * i + step = rw add-one (mul-suc step i) in
         record {
-          filling = filling_on one size blank count (stands before) few array (stands here) i inv.filling x (stands there) more (sym r);
+          filling = filling_on one count (stands before) array (stands here) i inv.filling x (stands there) more (sym r);
           text = next.text ∙ inv.text;
           lines = omega (arith, inv.lines, next.lines, grown);
           within = next.within (rw e);
         }
 
-    pub fills_stop : {k : ℕ} → step * count ≡ k → {e : Refusal} → answer ≡ Err e → Reads (many_filled size blank count one) k before (Err e) there
+    pub fills_stop : {k : ℕ} → step * count ≡ k → {e : Refusal} → answer ≡ Err e → Reads (many count one) k before (Err e) there
     fills_stop all {e} w =
         let r : refused (Err e) ≡ one (stands here) = rw w at next.read in
         let grown : step * (i + 1) ≡ step * i + step = rw add-one (mul-suc step i) in
         let most : step * (i + 1) ≤ step * count = mul-le-mul_left step (omega arith) in
         record {
-          read = sym (filling_stops one size blank count (stands before) few array (stands here) i inv.filling (Err e) more (sym r));
+          read = sym (filling_stops one count (stands before) array (stands here) i inv.filling (Err e) more (sym r));
           text = next.text ∙ inv.text;
           lines = omega (arith, inv.lines, next.lines, grown, most, all);
           within = λ ok. absurd (never ok refl);
         }
 
-  pub fills_end : {k : ℕ} → step * count ≡ k → count ≤ size → (array : List A) (here : Lines) (i : ℕ) → Fills array here i → count ≤ i → Reads (many_filled size blank count one) k before (Ok array) here
-  fills_end every few array here i inv h =
+  pub fills_end : {k : ℕ} → step * count ≡ k → (array : List A) (here : Lines) (i : ℕ) → Fills array here i → count ≤ i → Reads (many count one) k before (Ok array) here
+  fills_end every array here i inv h =
       let all : i ≡ count = omega (arith, inv.filling.low) in
       record {
-        read = sym (filling_ends one size blank count (stands before) few array (stands here) i inv.filling h);
+        read = sym (filling_ends one count (stands before) array (stands here) i inv.filling h);
         text = inv.text;
         lines = rw (all, every) at inv.lines;
         within = λ ok. inv.within;
       }
+
+-- what was read into a part of so many
+pub reads_part : {A C : Type 0} (one : ℕ → Reader A) (lines : ℕ → ℕ) (n : ℕ) (part : List C) {before after : Lines} {answer : Result A Refusal}
+    → length part ≡ n → Reads (one (length part)) (lines (length part)) before answer after → Reads (one n) (lines n) before answer after
+reads_part one lines n part e h = rw e at h
+
+-- the part of a blank array that was lent has the length asked for, and what was read into it fills the array
+module _ {A : Type 0} (n m k : ℕ) (z : A) (few : n ≤ m) (same : k ≡ n) where
+  pub part_long : length (take k (replicate m z)) ≡ n
+  part_long = rw same (length-take-le n (replicate m z) (omega (arith, few, length-replicate m z)))
+
+  pub part_fills : (xs : List A) → length xs ≡ length (take k (replicate m z)) → xs ++ drop k (replicate m z) ≡ filled m z xs
+  part_fills xs long =
+      let l : length xs ≡ n = long ∙ part_long in
+      let e : k ≡ length xs = omega (arith, same, l) in
+      rw (e, drop-replicate)
 
 -- ---- the plan at a place of a text
 

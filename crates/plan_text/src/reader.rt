@@ -1,11 +1,9 @@
 // The plan text read: its lines in their fixed order, judged line by line. Windows, budgets and the table are judged in acceptance.
 ghost use Rattle.std.specs.Prelude.{◌≡◌, ◌+◌, ◌*◌, ◌≤◌, ◌<◌, length};
-ghost use Rattle.plan.specs.Limits.{max_slots, max_jobs};
-ghost use Rattle.plan.specs.Plan.{blank_job};
-ghost use Rattle.lines.specs.Lines.{bytes, number, field};
+ghost use Rattle.lines.specs.Lines.{bytes, number, many, field};
 ghost use Rattle.lines.specs.Reading.{field_at, line_with};
 ghost use Rattle.plan_text.specs.Read.{level_in, next_job, next_plan, read_plan};
-ghost use Rattle.plan_text.specs.Reader.{Taken, Reads, many_filled, plan_lines, last_line, plan_told, prefix_told, plan_from, plan_prefix};
+ghost use Rattle.plan_text.specs.Reader.{Taken, Reads, read_into, plan_lines, last_line, plan_told, prefix_told, plan_from, plan_prefix};
 
 use super::PlanRead;
 use answers::{Answer, Refusal};
@@ -104,32 +102,28 @@ impl Lines<'_> {
         })
     }
 
-    // The lines of so many jobs, blank jobs beyond them.
-    fn jobs(&mut self, count: usize) -> Result<[Job; JOBS], Refusal>
-        requires count_le_max_jobs { count ≤ max_jobs }
-        requires lines { self.old.line + 5 * count ≤ last_line }
+    // The lines of as many jobs as the slice has room for.
+    fn jobs(&mut self, jobs: &mut [Job]) -> Result<(), Refusal>
+        requires lines { self.old.line + 5 * length jobs.old ≤ last_line }
         requires within { self.old.reader.at ≤ length self.old.reader.text.now }
-        ensures { Reads (many_filled max_jobs blank_job count next_job) (5 * count) self.old result self.new }
+        ensures { Reads (many (length jobs.old) next_job) (5 * length jobs.old) self.old (read_into jobs.new result) self.new }
     {
-        let mut job = [plan::blank_job(); JOBS];
-        for i in 0..count {
-            job[i] = self.job()?;
+        for job in jobs {
+            *job = self.job()?;
         }
-        Ok(job)
+        Ok(())
     }
 
-    // The lines of so many slots, 0 beyond them.
-    fn slots(&mut self, count: usize) -> Result<[u16; SLOTS], Refusal>
-        requires count_le_max_slots { count ≤ max_slots }
-        requires lines { self.old.line + count ≤ last_line }
+    // The lines of as many slots as the slice has room for.
+    fn slots(&mut self, slots: &mut [u16]) -> Result<(), Refusal>
+        requires lines { self.old.line + length slots.old ≤ last_line }
         requires within { self.old.reader.at ≤ length self.old.reader.text.now }
-        ensures { Reads (many_filled max_slots 0 count (field number "slot=")) count self.old result self.new }
+        ensures { Reads (many (length slots.old) (field number "slot=")) (length slots.old) self.old (read_into slots.new result) self.new }
     {
-        let mut table = [0u16; SLOTS];
-        for t in 0..count {
-            table[t] = self.number(b"slot=")?;
+        for slot in slots {
+            *slot = self.number(b"slot=")?;
         }
-        Ok(table)
+        Ok(())
     }
 
     // The lines of a plan; those of the largest have numbers.
@@ -141,8 +135,10 @@ impl Lines<'_> {
         plan::slot_limit(slots)?;
         let jobs = self.number(b"jobs=")?;
         plan::job_limit(jobs)?;
-        let job = self.jobs(usize::from(jobs))?;
-        let table = self.slots(usize::from(slots))?;
+        let mut job = [plan::blank_job(); JOBS];
+        self.jobs(&mut job[..usize::from(jobs)])?;
+        let mut table = [0; SLOTS];
+        self.slots(&mut table[..usize::from(slots)])?;
         Ok(Plan {
             slots,
             jobs,

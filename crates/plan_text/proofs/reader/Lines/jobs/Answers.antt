@@ -1,8 +1,6 @@
--- `Lines::jobs`: one job more stands in the array, or its line is refused.
-use Rattle.std.proofs.Common.{refl}
+-- `Lines::jobs`: one job more stands in the slice, or its line is refused.
+use Rattle.std.proofs.Common.{length, refl}
 use Rattle.std.proofs.lemmas.Result.{err_from_is_err_and}
-use Rattle.plan.specs.Limits.{max_jobs}
-use Rattle.plan.specs.Plan.{blank_job}
 use Rattle.plan_text.specs.Read.{next_job}
 use Rattle.plan_text.specs.ReaderLaws.{fills_on, fills_stop, fills_end}
 use Rattle.plan_text.proofs.reader.Lines.jobs.Goals as goal
@@ -11,11 +9,10 @@ pub returns-in_err-job : goal.returns-in_err-job
 returns-in_err-job c =
     let p = err_from_is_err_and c.from_residual.result c.from_residual.ensures.1 in
     rw (p.1, p.2)
-    (fills_stop next_job 5 max_jobs blank_job _ _ c.requires.count_le_max_jobs _ _ _ _ c.loop-i.invariant c.loop-i-test.true _ c.job.ensures refl c.in_err-job.was)
+    (fills_stop next_job 5 (length c.args.jobs.now) c.args.self.now _ _ _ _ c.loop-job.invariant c.loop-job-test.true _ c.job.ensures refl c.in_err-job.was)
 
-pub loop-i-preserved : goal.loop-i-preserved
-loop-i-preserved c =
-    fills_on next_job 5 max_jobs blank_job _ _ c.requires.count_le_max_jobs _ _ _ _ c.loop-i.invariant c.loop-i-test.true _ c.job.ensures _ c.in_ok-job.was
+pub loop-job-preserved : goal.loop-job-preserved
+loop-job-preserved c = fills_on next_job 5 (length c.args.jobs.now) c.args.self.now _ _ _ _ c.loop-job.invariant c.loop-job-test.true _ c.job.ensures _ c.in_ok-job.was
 
 pub returns : goal.returns
-returns c = fills_end next_job 5 max_jobs blank_job _ _ refl c.requires.count_le_max_jobs _ _ _ c.loop-i.invariant c.loop-i-test.false
+returns c = fills_end next_job 5 (length c.args.jobs.now) c.args.self.now refl _ _ _ c.loop-job.invariant c.loop-job-test.false

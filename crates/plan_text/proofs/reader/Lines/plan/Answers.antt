@@ -1,24 +1,24 @@
 -- `Lines::plan`: the lines of a plan one after the other; the first that is refused is the answer.
-use Rattle.std.specs.Prelude.{◌+◌, ◌*◌, is_ok, ◌≤◌, List, ℕ}
+use Rattle.std.specs.Prelude.{◌≡◌, ◌+◌, ◌*◌, is_ok, ◌≤◌, List, ℕ}
 use Rattle.std.proofs.Common.{arith, sym, ap, ◌∙◌}
 use Rattle.std.proofs.lemmas.Result.{err_from_is_err_and}
 use Rattle.answers.specs.Answer.{accepted}
 use Rattle.plan.specs.declared.Job.{Job}
 use Rattle.plan.specs.declared.Plan.{Plan}
 use Rattle.plan.specs.Limits.{max_slots, max_jobs}
-use Rattle.plan.specs.Plan.{blank_job}
 use Rattle.words.specs.Words.{filled}
-use Rattle.lines.specs.Lines.{Reader, give, ◌>>=◌, many, number, field}
+use Rattle.lines.specs.Lines.{many, number, field}
 use Rattle.plan_text.specs.Read.{next_job, next_plan}
-use Rattle.plan_text.specs.Reader.{plan_lines}
+use Rattle.plan_text.specs.Reader.{plan_lines, read_into}
 use Rattle.plan_text.specs.RoundLaws.{one_to_lem, limit_slots, limit_jobs}
-use Rattle.plan_text.specs.ReaderLaws.{wider, must_reads, goes_on, stops, array_goes_on, array_stops, given}
+use Rattle.plan_text.specs.ReaderLaws.{wider, must_reads, goes_on, stops, given, reads_part, part_long, part_fills}
 use Rattle.plan_text.proofs.reader.Lines.plan.Goals as goal
 use Rattle.plan_text.proofs.reader.Lines.plan.Goals.{In_ok-slots, In_ok-slot_limit, In_ok-jobs, In_ok-job_limit}
 
--- what is read after the jobs
-abbrev after_jobs : ℕ → ℕ → List Job → Reader Plan
-after_jobs slots jobs job = many slots (field number "slot=") >>= (λ table. give (record { slots = slots; jobs = jobs; job = job; table = filled max_slots 0 table }))
+-- the plan of arrays that are the same
+plan_made : (slots jobs : ℕ) {job job' : List Job} {table table' : List ℕ} → job ≡ job' → table ≡ table'
+    → ◌≡◌ {A = Plan} (record { slots = slots; jobs = jobs; job = job; table = table }) (record { slots = slots; jobs = jobs; job = job'; table = table' })
+plan_made slots jobs e f = rw (e, f)
 
 slots_few : (c : In_ok-slot_limit) → c.in_ok-slots.slots ≤ max_slots
 unfolding accepted
@@ -66,42 +66,55 @@ returns-in_err-job_limit c =
     (goes_on _ _ 1 (0 + 0) c.number-2.ensures c.in_ok-jobs.was
     (stops _ _ 0 0 (must_reads _ _ c.job_limit.ensures (c.number-2.ensures.within (ap is_ok c.in_ok-jobs.was))) c.in_err-job_limit.was)))))
 
-pub returns-in_err-job : goal.returns-in_err-job
+pub returns-in_err-jobs-2 : goal.returns-in_err-jobs-2
 unfolding next_plan field
-returns-in_err-job c =
-    let at = goal.at.returns-in_err-job c in
-    let p = err_from_is_err_and c.from_residual-in_err-job.result c.from_residual-in_err-job.ensures.1 in
+returns-in_err-jobs-2 c =
+    let at = goal.at.returns-in_err-jobs-2 c in
+    let few = jobs_few at.In_ok-job_limit in
+    let part = part_long c.in_ok-jobs.jobs max_jobs c.from.result c.blank_job-job.result few c.from.ensures in
+    let p = err_from_is_err_and c.from_residual-in_err-jobs-2.result c.from_residual-in_err-jobs-2.ensures.1 in
     rw (p.1, p.2)
-    (wider _ plan_lines (omega (arith, jobs_few at.In_ok-job_limit))
+    (wider _ plan_lines (omega (arith, few))
     (goes_on _ _ 1 (0 + (1 + (0 + (5 * c.in_ok-jobs.jobs + 0)))) c.number.ensures c.in_ok-slots.was
     (goes_on _ _ 0 (1 + (0 + (5 * c.in_ok-jobs.jobs + 0))) (must_reads _ _ c.slot_limit.ensures (c.number.ensures.within (ap is_ok c.in_ok-slots.was))) c.in_ok-slot_limit.was
     (goes_on _ _ 1 (0 + (5 * c.in_ok-jobs.jobs + 0)) c.number-2.ensures c.in_ok-jobs.was
     (goes_on _ _ 0 (5 * c.in_ok-jobs.jobs + 0) (must_reads _ _ c.job_limit.ensures (c.number-2.ensures.within (ap is_ok c.in_ok-jobs.was))) c.in_ok-job_limit.was
-    (array_stops max_jobs blank_job _ next_job (after_jobs c.in_ok-slots.slots c.in_ok-jobs.jobs) _ 0 (rw c.from.ensures at c.jobs.ensures) c.in_err-job.was))))))
+    (stops _ _ _ 0 (reads_part (λ n. many n next_job) (λ n. 5 * n) c.in_ok-jobs.jobs _ part c.jobs.ensures) (ap (read_into c.jobs.new.jobs) c.in_err-jobs-2.was)))))))
 
-pub returns-in_err-table : goal.returns-in_err-table
+pub returns-in_err-slots-2 : goal.returns-in_err-slots-2
 unfolding next_plan field
-returns-in_err-table c =
-    let at = goal.at.returns-in_err-table c in
-    let p = err_from_is_err_and c.from_residual-in_err-table.result c.from_residual-in_err-table.ensures.1 in
+returns-in_err-slots-2 c =
+    let at = goal.at.returns-in_err-slots-2 c in
+    let few_jobs = jobs_few at.In_ok-job_limit in
+    let few_slots = slots_few at.In_ok-slot_limit in
+    let jobs = part_long c.in_ok-jobs.jobs max_jobs c.from.result c.blank_job-job.result few_jobs c.from.ensures in
+    let slots = part_long {A = ℕ} c.in_ok-slots.slots max_slots c.from-2.result 0 few_slots c.from-2.ensures in
+    let p = err_from_is_err_and c.from_residual-in_err-slots-2.result c.from_residual-in_err-slots-2.ensures.1 in
     rw (p.1, p.2)
-    (wider _ plan_lines (omega (arith, jobs_few at.In_ok-job_limit, slots_few at.In_ok-slot_limit))
+    (wider _ plan_lines (omega (arith, few_jobs, few_slots))
     (goes_on _ _ 1 (0 + (1 + (0 + (5 * c.in_ok-jobs.jobs + (c.in_ok-slots.slots + 0))))) c.number.ensures c.in_ok-slots.was
     (goes_on _ _ 0 (1 + (0 + (5 * c.in_ok-jobs.jobs + (c.in_ok-slots.slots + 0)))) (must_reads _ _ c.slot_limit.ensures (c.number.ensures.within (ap is_ok c.in_ok-slots.was))) c.in_ok-slot_limit.was
     (goes_on _ _ 1 (0 + (5 * c.in_ok-jobs.jobs + (c.in_ok-slots.slots + 0))) c.number-2.ensures c.in_ok-jobs.was
     (goes_on _ _ 0 (5 * c.in_ok-jobs.jobs + (c.in_ok-slots.slots + 0)) (must_reads _ _ c.job_limit.ensures (c.number-2.ensures.within (ap is_ok c.in_ok-jobs.was))) c.in_ok-job_limit.was
-    (array_goes_on max_jobs blank_job _ next_job (after_jobs c.in_ok-slots.slots c.in_ok-jobs.jobs) _ (c.in_ok-slots.slots + 0) (rw c.from.ensures at c.jobs.ensures) c.in_ok-job.was
-    (array_stops max_slots 0 _ (field number "slot=") (λ table. give (record { slots = c.in_ok-slots.slots; jobs = c.in_ok-jobs.jobs; job = c.in_ok-job.job; table = table })) _ 0 (rw c.from-2.ensures at c.slots.ensures) c.in_err-table.was)))))))
+    (goes_on _ _ _ (c.in_ok-slots.slots + 0) (reads_part (λ n. many n next_job) (λ n. 5 * n) c.in_ok-jobs.jobs _ jobs c.jobs.ensures) (ap (read_into c.jobs.new.jobs) c.in_ok-jobs-2.was)
+    (stops _ _ _ 0 (reads_part (λ n. many n (field number "slot=")) (λ n. n) c.in_ok-slots.slots _ slots c.slots.ensures) (ap (read_into c.slots.new.slots) c.in_err-slots-2.was))))))))
 
 pub returns : goal.returns
 unfolding next_plan field
 returns c =
     let at = goal.at.returns c in
-    wider _ plan_lines (omega (arith, jobs_few at.In_ok-job_limit, slots_few at.In_ok-slot_limit))
+    let few_jobs = jobs_few at.In_ok-job_limit in
+    let few_slots = slots_few at.In_ok-slot_limit in
+    let jobs = part_long c.in_ok-jobs.jobs max_jobs c.from.result c.blank_job-job.result few_jobs c.from.ensures in
+    let slots = part_long {A = ℕ} c.in_ok-slots.slots max_slots c.from-2.result 0 few_slots c.from-2.ensures in
+    let job = part_fills c.in_ok-jobs.jobs max_jobs c.from.result c.blank_job-job.result few_jobs c.from.ensures c.jobs.new.jobs c.jobs.auto.jobs ∙ ap (λ z. filled max_jobs z c.jobs.new.jobs) c.blank_job-job.ensures in
+    let table = part_fills c.in_ok-slots.slots max_slots c.from-2.result 0 few_slots c.from-2.ensures c.slots.new.slots c.slots.auto.slots in
+    let read_slots = reads_part (λ n. many n (field number "slot=")) (λ n. n) c.in_ok-slots.slots _ slots c.slots.ensures in
+    wider _ plan_lines (omega (arith, few_jobs, few_slots))
     (goes_on _ _ 1 (0 + (1 + (0 + (5 * c.in_ok-jobs.jobs + (c.in_ok-slots.slots + 0))))) c.number.ensures c.in_ok-slots.was
     (goes_on _ _ 0 (1 + (0 + (5 * c.in_ok-jobs.jobs + (c.in_ok-slots.slots + 0)))) (must_reads _ _ c.slot_limit.ensures (c.number.ensures.within (ap is_ok c.in_ok-slots.was))) c.in_ok-slot_limit.was
     (goes_on _ _ 1 (0 + (5 * c.in_ok-jobs.jobs + (c.in_ok-slots.slots + 0))) c.number-2.ensures c.in_ok-jobs.was
     (goes_on _ _ 0 (5 * c.in_ok-jobs.jobs + (c.in_ok-slots.slots + 0)) (must_reads _ _ c.job_limit.ensures (c.number-2.ensures.within (ap is_ok c.in_ok-jobs.was))) c.in_ok-job_limit.was
-    (array_goes_on max_jobs blank_job _ next_job (after_jobs c.in_ok-slots.slots c.in_ok-jobs.jobs) _ (c.in_ok-slots.slots + 0) (rw c.from.ensures at c.jobs.ensures) c.in_ok-job.was
-    (array_goes_on max_slots 0 _ (field number "slot=") (λ table. give (record { slots = c.in_ok-slots.slots; jobs = c.in_ok-jobs.jobs; job = c.in_ok-job.job; table = table })) _ 0 (rw c.from-2.ensures at c.slots.ensures) c.in_ok-table.was
-    (given _ _ (c.slots.ensures.within (ap is_ok c.in_ok-table.was)))))))))
+    (goes_on _ _ _ (c.in_ok-slots.slots + 0) (reads_part (λ n. many n next_job) (λ n. 5 * n) c.in_ok-jobs.jobs _ jobs c.jobs.ensures) (ap (read_into c.jobs.new.jobs) c.in_ok-jobs-2.was)
+    (goes_on _ _ _ 0 read_slots (ap (read_into c.slots.new.slots) c.in_ok-slots-2.was)
+    (given _ (plan_made _ _ job table) (c.slots.ensures.within (ap (λ r. is_ok (read_into c.slots.new.slots r)) c.in_ok-slots-2.was)))))))))

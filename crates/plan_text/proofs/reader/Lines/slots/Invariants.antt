@@ -1,8 +1,8 @@
--- `Lines::slots`: t slots stand in the table, the rest is 0, one line to each.
-use Rattle.plan.specs.Limits.{max_slots}
+-- `Lines::slots`: so many slots stand in front, one line to each.
+use Rattle.std.proofs.Common.{length}
 use Rattle.lines.specs.Lines.{number, field}
 use Rattle.plan_text.specs.ReaderLaws.{Fills}
 use Rattle.plan_text.proofs.reader.Lines.slots.Given as goal
 
-abbrev pub invariant-loop-t : goal.invariant-loop-t
-invariant-loop-t l = Fills (field number "slot=") 1 max_slots 0 l.count l.fn.self l.table l.self l.t
+abbrev pub invariant-loop-slot : goal.invariant-loop-slot
+invariant-loop-slot l = Fills (field number "slot=") 1 (length l.initial.slot-items) l.initial.self l.slot-items l.self l.slot-index
