@@ -4,7 +4,7 @@ ghost use Rattle.plan.specs.Limits.{max_slots, max_jobs};
 ghost use Rattle.plan.specs.Counts.{max_count};
 ghost use Rattle.entries.specs.Entry.{ran_on};
 ghost use Rattle.executive.specs.Step.{kind_fits, reported, expired_entries, expired, overrun, every_settled, can_return, phase_after, judged};
-ghost use Rattle.executive.specs.Sound.{Countable};
+ghost use Rattle.executive.specs.Sound.{Countable, Whole};
 
 use crate::going::Going;
 use crate::{Phase, Run};
@@ -91,8 +91,9 @@ impl Run {
 
     // The reported HI job is live and has had its lo.
     #[tactic(auto, unfolding(crate::specs::Step::overrun))]
-    fn overruns(self, slot: Slot) -> bool
-        ensures { result ≡ overrun self slot }
+    fn overruns(&self, slot: Slot) -> bool
+        requires { Whole self.now }
+        ensures { result ≡ overrun self.now slot }
     {
         let Slot::Job(k) = slot else {
             return false;
@@ -103,15 +104,16 @@ impl Run {
 
     // The return test, against the counts of border t.
     #[tactic(auto, unfolding(crate::specs::Step::can_return))]
-    fn can_return(self) -> bool
-        ensures { result ≡ can_return self }
+    fn can_return(&self) -> bool
+        ensures { result ≡ can_return self.now }
     {
         let counts = plan::counts_at(self.plan, self.t);
         every_settled(self.jobs(), &self.entry, &counts)
     }
 
-    fn phase_after(self, slot: Slot) -> Phase
-        ensures { result ≡ phase_after self.phase self slot }
+    fn phase_after(&self, slot: Slot) -> Phase
+        requires { Whole self.now }
+        ensures { result ≡ phase_after self.now.phase self.now slot }
     {
         match self.phase {
             Phase::T if self.overruns(slot) => Phase::H,
