@@ -10,7 +10,7 @@ use Rattle.answers.specs.Answer.{Answer, accepted}
 use Rattle.lines.specs.Lines.{bytes, got, refused, Reader, give, ◌>>=◌, must, many, nothing_after}
 use Rattle.lines.specs.Reading.{field_at, standing, line_with}
 use Rattle.lines.specs.ReadingLaws.{same_length, field_got, field_refused}
-use Rattle.lines.specs.ManyLaws.{Filling, filling_starts, filling_on, filling_stops, filling_ends}
+use Rattle.lines.specs.ManyLaws.{Filling, filling_on, filling_stops, filling_ends}
 use Rattle.plan.specs.declared.Plan.{Plan}
 use Rattle.plan_text.specs.Read.{level_in, next_plan, only_plan, read_plan}
 use Rattle.plan_text.specs.Reader.{stands, Reads, Taken, last_line, plan_lines, plan_from, prefix_told, plan_told}
@@ -72,9 +72,6 @@ module _ {A : Type 0} (one : Reader A) (step count : ℕ) (before : Lines) where
     pub text : here.reader.text ≡ before.reader.text
     pub lines : here.line ≤ before.line + step * i
     pub within : here.reader.at ≤ length here.reader.text.now
-
-  pub fills_start : (array : List A) → length array ≡ count → before.reader.at ≤ length before.reader.text.now → Fills array before 0
-  fills_start array long h = record { filling = filling_starts one count (stands before) array long; text = refl; lines = omega arith; within = h }
 
   module _ (array : List A) (here there : Lines) (i : ℕ) (inv : Fills array here i) (more : i < count) (answer : Result A Refusal) (next : Reads one step here answer there) where
     pub fills_on : (x : A) → answer ≡ Ok x → Fills (set array i x) there (i + 1)
