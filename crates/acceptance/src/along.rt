@@ -80,10 +80,10 @@ fn is_last(j: Job, count: u16) -> bool
 }
 
 // The HI work along the table, job by job.
-fn work_along(job: &[Job; JOBS], counts: &[u16; JOBS]) -> [u16; JOBS]
-    ensures { result ≡ work_along job.now counts.now }
+fn work_along(job: &[Job; JOBS], counts: [u16; JOBS]) -> [u16; JOBS]
+    ensures { result ≡ work_along job.now counts }
 {
-    array::from_fn(|i| left_along(job[i], counts[i]))
+    array::from_fn(move |i| left_along(job[i], counts[i]))
 }
 
 impl<'a> Border<'a> {
@@ -106,7 +106,7 @@ impl<'a> Border<'a> {
     fn is_short(self) -> bool
         ensures { result ≡ overdrawn self.entry.of.now.plan self.entry.t }
     {
-        let work = work_along(&self.of.plan.job, &self.counts);
+        let work = work_along(&self.of.plan.job, self.counts);
         let sums = spares::debt::work_by_home(&self.of.layout.home, &work);
         spares::debt::in_debt(&self.of.layout, self.t, &sums)
     }

@@ -49,12 +49,12 @@ fn expired_entries(t: u16, job: &[Job], before: [Entry; JOBS]) -> [Entry; JOBS]
 }
 
 // The return test, job by job against the counts.
-fn every_settled(job: &[Job], entry: &[Entry], counts: &[u16]) -> bool
-    ensures { result ≡ every_settled job.now entry.now counts.now }
+fn every_settled(job: &[Job], entry: &[Entry], counts: [u16; JOBS]) -> bool
+    ensures { result ≡ every_settled job.now entry.now counts }
 {
     job.iter()
         .zip(entry)
-        .zip(counts)
+        .zip(&counts)
         .all(|((j, e), count)| settled(*j, *e, *count))
 }
 
@@ -108,7 +108,7 @@ impl Run {
         ensures { result ≡ can_return self.now }
     {
         let counts = plan::counts_at(self.plan, self.t);
-        every_settled(self.jobs(), &self.entry, &counts)
+        every_settled(self.jobs(), &self.entry, counts)
     }
 
     fn phase_after(&self, slot: Slot) -> Phase

@@ -10,5 +10,5 @@ use Rattle.executive.proofs.stepping.every_settled.Goals as goal
 
 pub returns : goal.returns
 returns c =
-    all_from_yields_List (λ (p : (Job × Entry) × ℕ). settled p.0.0 p.0.1 p.1) c.all.new.self _ _ c.all.ensures.ran (YieldsList-from_zip (YieldsList-from_zip (YieldsList-from_slice c.args.job.now cc) (YieldsList-from_slice c.args.entry.now cc)) (YieldsList-from_slice c.args.counts.now cc)) (λ x b q k. search (rules, tests))
-    ∙ every_settled_all c.args.job.now c.args.entry.now c.args.counts.now
+    all_from_yields_List (λ (p : (Job × Entry) × ℕ). settled p.0.0 p.0.1 p.1) c.all.new.self _ _ c.all.ensures.ran (YieldsList-from_zip (YieldsList-from_zip (YieldsList-from_slice c.args.job.now cc) (YieldsList-from_slice c.args.entry.now cc)) (YieldsList-from_slice c.args.counts cc)) (λ x b q k. search (rules, tests))
+    ∙ every_settled_all c.args.job.now c.args.entry.now c.args.counts
