@@ -1,4 +1,4 @@
-// Who gets slot t, in either phase. What a choice is refused for is in lib.rt.
+// Who gets slot t, in either phase. What a choice is refused for is in going.rt.
 ghost use Rattle.std.specs.Prelude.{◌≡◌, not, ◌&&◌};
 ghost use Rattle.words.specs.Words.{◌≤?◌, below0, above0};
 ghost use Rattle.entries.specs.Entry.{live};

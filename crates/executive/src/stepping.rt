@@ -1,4 +1,4 @@
-// One accepted report, applied: the job's entry, expiry, the phase. What a step is refused for is in lib.rt.
+// One accepted report, applied: the job's entry, expiry, the phase. What a step is refused for is in going.rt (10 and 11) and lib.rt (12 and 13).
 ghost use Rattle.std.specs.Prelude.{◌≡◌, ◌≤◌, ◌<◌, length};
 ghost use Rattle.plan.specs.Limits.{max_slots, max_jobs};
 ghost use Rattle.plan.specs.Counts.{max_count};

@@ -1,4 +1,4 @@
-// The plan text read: its lines in their fixed order, judged line by line. Windows, budgets and the table are judged in acceptance.
+// The plan text read: its lines in their fixed order, judged line by line. Windows, budgets and the table are judged in well_formed.
 ghost use Rattle.std.specs.Prelude.{◌≡◌, ◌+◌, ◌*◌, ◌≤◌, ◌<◌, length};
 ghost use Rattle.lines.specs.Lines.{bytes, number, many, field};
 ghost use Rattle.lines.specs.Reading.{field_at, line_with};
