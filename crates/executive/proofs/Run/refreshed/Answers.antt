@@ -9,4 +9,4 @@ fresh_rows-requires c = (record { few = c.requires.0; jobs = search (rules, long
 
 pub returns : goal.returns
 unfolding refreshed
-returns c = rw (c.fresh_rows.ensures.0, c.fresh_rows.ensures.1)
+returns c = search (rules, c.fresh_rows.ensures)

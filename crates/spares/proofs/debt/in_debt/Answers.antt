@@ -18,7 +18,7 @@ loop-i-preserved c =
     let xs = c.listed-listed.result.now in (
       omega arith,
       debt_small l.debt c.saturating_sub-debt.result (length xs) l.i (omega (arith, c.fits-sums (l.i - 1), c.asked_of.ensures.1)) l.invariant.1 (omega arith) (search rules),
-      rw (c.saturating_sub-debt.ensures, debt_back c.args.t l.i (of_sums c.args.sums.now) xs (omega arith) (search rules), ← l.invariant.2, c.asked_of.ensures.0, c.room_left.ensures.0),
+      rw (c.saturating_sub-debt.ensures, debt_back c.args.t l.i (of_sums c.args.sums.now) xs (omega arith) (search rules), ← l.invariant.2, c.asked_of.ensures.0, c.room_left.ensures.0) (search rules),
     )
 
 pub returns : goal.returns
