@@ -55,42 +55,46 @@ pattern abbrev pub Chopped : ℕ → Answer
 Chopped job = Err (Refusal.Chopped job)
 
 -- the table's column "No."
-abbrev pub number_of : Answer → ℕ
-number_of Accepted = 0
-number_of (Form line) = 1
-number_of SlotLimit = 2
-number_of JobLimit = 3
-number_of (Window job) = 4
-number_of (Budget job) = 5
-number_of (TableSlot slot) = 6
-number_of (TableCount job) = 7
-number_of (Overfull a b) = 8
-number_of (Overdrawn border) = 9
-number_of Incoherent = 10
-number_of (Over t) = 11
-number_of (OtherSlot t) = 12
-number_of (WrongKind t) = 13
-number_of (NoRoom bytes) = 14
-number_of (Chopped job) = 17
+abbrev pub number_of : {T : Type 0} → Result T Refusal → ℕ
+number_of (Ok held) = 0
+number_of (Err (Refusal.Form line)) = 1
+number_of (Err Refusal.SlotLimit) = 2
+number_of (Err Refusal.JobLimit) = 3
+number_of (Err (Refusal.Window job)) = 4
+number_of (Err (Refusal.Budget job)) = 5
+number_of (Err (Refusal.TableSlot slot)) = 6
+number_of (Err (Refusal.TableCount job)) = 7
+number_of (Err (Refusal.Overfull a b)) = 8
+number_of (Err (Refusal.Overdrawn border)) = 9
+number_of (Err Refusal.Incoherent) = 10
+number_of (Err (Refusal.Over t)) = 11
+number_of (Err (Refusal.OtherSlot t)) = 12
+number_of (Err (Refusal.WrongKind t)) = 13
+number_of (Err (Refusal.NoRoom bytes)) = 14
+number_of (Err (Refusal.Chopped job)) = 17
 
--- its column "Place"
+-- its column "Place", where an accepted answer has the place of what it holds
+abbrev pub places_by : {T : Type 0} → (T → ℕ) → Result T Refusal → List ℕ
+places_by place (Ok held) = place held ∷ []
+places_by place (Err (Refusal.Form line)) = line ∷ []
+places_by place (Err Refusal.SlotLimit) = 1 ∷ []
+places_by place (Err Refusal.JobLimit) = 2 ∷ []
+places_by place (Err (Refusal.Window job)) = job ∷ []
+places_by place (Err (Refusal.Budget job)) = job ∷ []
+places_by place (Err (Refusal.TableSlot slot)) = slot ∷ []
+places_by place (Err (Refusal.TableCount job)) = job ∷ []
+places_by place (Err (Refusal.Overfull a b)) = a ∷ b ∷ []
+places_by place (Err (Refusal.Overdrawn border)) = border ∷ []
+places_by place (Err Refusal.Incoherent) = 0 ∷ []
+places_by place (Err (Refusal.Over t)) = t ∷ []
+places_by place (Err (Refusal.OtherSlot t)) = t ∷ []
+places_by place (Err (Refusal.WrongKind t)) = t ∷ []
+places_by place (Err (Refusal.NoRoom bytes)) = bytes ∷ []
+places_by place (Err (Refusal.Chopped job)) = job ∷ []
+
+-- a check holds nothing: place 0
 abbrev pub places_of : Answer → List ℕ
-places_of Accepted = 0 ∷ []
-places_of (Form line) = line ∷ []
-places_of SlotLimit = 1 ∷ []
-places_of JobLimit = 2 ∷ []
-places_of (Window job) = job ∷ []
-places_of (Budget job) = job ∷ []
-places_of (TableSlot slot) = slot ∷ []
-places_of (TableCount job) = job ∷ []
-places_of (Overfull a b) = a ∷ b ∷ []
-places_of (Overdrawn border) = border ∷ []
-places_of Incoherent = 0 ∷ []
-places_of (Over t) = t ∷ []
-places_of (OtherSlot t) = t ∷ []
-places_of (WrongKind t) = t ∷ []
-places_of (NoRoom bytes) = bytes ∷ []
-places_of (Chopped job) = job ∷ []
+places_of = places_by (λ nothing. 0)
 
 -- the place of an answer, the first of two
 abbrev pub first_place : Answer → ℕ

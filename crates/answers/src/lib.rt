@@ -2,8 +2,8 @@
 // specs/Answer.antt has the number and the places of each.
 #![tactic(auto)]
 
-ghost use Rattle.std.specs.Prelude.{◌≡◌, get_or};
-ghost use Rattle.answers.specs.Answer.{number_of, places_of, first_place};
+ghost use Rattle.std.specs.Prelude.{◌≡◌, ℕ, get_or};
+ghost use Rattle.answers.specs.Answer.{number_of, places_by};
 
 // What a refusal holds is its place: a line, a job, a slot, a border, a count of bytes.
 #[derive(Clone, Copy, PartialEq, Eq)]
@@ -28,12 +28,36 @@ pub enum Refusal {
 // The answer of a check: accepted, or the refusal.
 pub type Answer = Result<(), Refusal>;
 
+// What an accepted answer holds, and the place that it has for it: a check's nothing and 0, the writer's its bytes.
+pub trait Accepting: Drop {
+    ghost place: { Self → ℕ };
+
+    fn place(&self) -> usize
+        ensures { result ≡ place self.now };
+}
+
+impl Accepting for () {
+    ghost place = { λ nothing. 0 };
+
+    fn place(&self) -> usize {
+        0
+    }
+}
+
+impl Accepting for usize {
+    ghost place = { λ bytes. bytes };
+
+    fn place(&self) -> usize {
+        *self
+    }
+}
+
 // The number of an answer, as the table of refusals has it; 0 is accepted.
-pub fn number_of(answer: Answer) -> u16
+pub fn number_of<T: Drop>(answer: Result<T, Refusal>) -> u16
     ensures { result ≡ number_of answer }
 {
     match answer {
-        Ok(()) => 0,
+        Ok(_) => 0,
         Err(Refusal::Form(_)) => 1,
         Err(Refusal::SlotLimit) => 2,
         Err(Refusal::JobLimit) => 3,
@@ -52,12 +76,13 @@ pub fn number_of(answer: Answer) -> u16
     }
 }
 
-// The place of an answer, the first of two; 0 of an accepted one.
-pub fn first_place(answer: Answer) -> usize
-    ensures { result ≡ first_place answer }
+// The place of an answer, the first of two; of an accepted one 0, of the writer's the bytes written.
+pub fn first_place<T: Accepting>(answer: Result<T, Refusal>) -> usize
+    ensures { result ≡ get_or (places_by T.place answer) 0 0 }
 {
     match answer {
-        Ok(()) | Err(Refusal::Incoherent) => 0,
+        Ok(accepted) => accepted.place(),
+        Err(Refusal::Incoherent) => 0,
         Err(Refusal::SlotLimit) => 1,
         Err(Refusal::JobLimit) => 2,
         Err(Refusal::NoRoom(bytes)) => bytes,
@@ -76,8 +101,8 @@ pub fn first_place(answer: Answer) -> usize
 }
 
 // The second place, which only 8 has; 0 for the others.
-pub fn second_place(answer: Answer) -> usize
-    ensures { result ≡ get_or (places_of answer) 1 0 }
+pub fn second_place<T: Accepting>(answer: Result<T, Refusal>) -> usize
+    ensures { result ≡ get_or (places_by T.place answer) 1 0 }
 {
     match answer {
         Err(Refusal::Overfull(_, b)) => usize::from(b),

@@ -3,9 +3,9 @@
 // Any other failure is said in one line on standard error. What the bytes mean is not here.
 #![tactic(auto)]
 
-ghost use Rattle.std.specs.Prelude.{◌≤◌, ◌<◌, ◌≡◌, length, take, drop, is_ok, IsErr, IfOk};
+ghost use Rattle.std.specs.Prelude.{◌≤◌, ◌<◌, ◌≡◌, ◌&&◌, length, take, drop, is_ok, is_some, IsErr, IfOk};
 ghost use Rattle.std.specs.Io.KnownBytes.{ReadConsumes, Consumes, IsAtEnd, Appends};
-ghost use Rattle.std.specs.IoError.{error_kind};
+ghost use Rattle.std.specs.IoError.{error_kind, raw_os_error};
 ghost use Rattle.streams.specs.Streams.{ReadAfter, passes};
 
 use arrayvec::ArrayString;
@@ -28,13 +28,15 @@ fn say(rt: &impl Eprint, what: &str, error: &Error) {
     let _ = eprintln!(rt; "{what}: {words}");
 }
 
-// After a call that failed: it may be made again, after a wait where nothing could be moved yet. Any other failure is said.
+// After a call that failed: it may be made again, after a wait where nothing could be moved yet. Any other failure is said,
+// and so is every one that is not the system's.
 fn after_failure(rt: &impl Eprint, what: &str, error: Error) -> io::Result<()>
-    ensures { is_ok result ≡ passes (error_kind error) }
+    ensures { is_ok result ≡ (is_some (raw_os_error error) && passes (error_kind error)) }
 {
+    let of_system = error.raw_os_error().is_some();
     match error.kind() {
-        ErrorKind::Interrupted => Ok(()),
-        ErrorKind::WouldBlock => {
+        ErrorKind::Interrupted if of_system => Ok(()),
+        ErrorKind::WouldBlock if of_system => {
             thread::yield_now();
             Ok(())
         }
