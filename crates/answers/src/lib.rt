@@ -29,7 +29,7 @@ pub enum Refusal {
 pub type Answer = Result<(), Refusal>;
 
 // What an accepted answer holds, and the place that it has for it: a check's nothing and 0, the writer's its bytes.
-pub trait Accepting: Drop {
+pub trait Accepting: Copy {
     ghost place: { Self → ℕ };
 
     fn place(&self) -> usize
@@ -53,7 +53,7 @@ impl Accepting for usize {
 }
 
 // The number of an answer, as the table of refusals has it; 0 is accepted.
-pub fn number_of<T: Drop>(answer: Result<T, Refusal>) -> u16
+pub fn number_of<T: Accepting>(answer: Result<T, Refusal>) -> u16
     ensures { result ≡ number_of answer }
 {
     match answer {

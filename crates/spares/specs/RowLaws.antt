@@ -167,7 +167,7 @@ module _ (t : ℕ) (hs ws : List ℕ) (xs : List Interval) (few : length xs ≤ 
       }
 
   -- one interval more, the one at place j
-  row_more : (sums : List ℕ) (row : List ℤ) (debt j free ask debt' : ℕ) (z : ℤ) → RowSoFar t hs ws xs row debt (suc j) → ByHome hs ws sums
+  pub row_more : (sums : List ℕ) (row : List ℤ) (debt j free ask debt' : ℕ) (z : ℤ) → RowSoFar t hs ws xs row debt (suc j) → ByHome hs ws sums
       → free ≡ room t (get_or xs j blank_interval) → ask ≡ asked t (get_or xs j blank_interval) (get_or sums j 0) debt → z ≡ sub_ℕ free ask → debt' ≡ ask - free
       → RowSoFar t hs ws xs (set row j z) debt' j
   unfolding debt_from

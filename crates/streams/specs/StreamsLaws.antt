@@ -1,5 +1,5 @@
 -- Laws of reading and writing: bytes that come one part after the other, and go out so; which of the system's error numbers pass.
-use Rattle.std.specs.Prelude.{ℕ, ◌+◌, ◌-◌, ◌≡◌, ◌++◌, length, take, drop, Option, refl, Bool, true, false, not, ◌&&◌, ◌||◌, suc, List, [], ◌∷◌, pos, negsuc, int_lt, if◌then◌else◌}
+use Rattle.std.specs.Prelude.{ℕ, ◌+◌, ◌-◌, ◌≡◌, ◌++◌, length, take, drop, Option, Some, refl, Bool, true, false, not, ◌&&◌, ◌||◌, suc, List, [], ◌∷◌, pos, negsuc, int_lt, if◌then◌else◌}
 use Rattle.std.proofs.Common.{arith, eq-eqb, ne_eqb, ap, sym, subst, ◌∙◌}
 use Rattle.std.proofs.lemmas.Bool.{false≢true, lt-leb}
 use Rattle.std.proofs.Math.Seq.{take-add}
@@ -8,10 +8,10 @@ use Rattle.std.proofs.KnownBytes.{Consumes-trans, Appends-trans}
 use Rattle.std.specs.Io.KnownBytes.{Consumes, Appends}
 use Rattle.std.specs.IoError.{os_error_kind, os_error_kinds, kind_in}
 use Rattle.std.specs.declared.io.ErrorKind.{ErrorKind}
-use Rattle.std.specs.declared.io.ErrorKind.TheVariants.{Uncategorized}
+use Rattle.std.specs.declared.io.ErrorKind.TheVariants.{Interrupted, WouldBlock, Uncategorized}
 use Rattle.words.specs.Words.{◌=?◌}
 use Rattle.words.specs.Cases.{by_equal, by_test, both_hold}
-use Rattle.streams.specs.Streams.{passes}
+use Rattle.streams.specs.Streams.{passes, passing}
 
 -- ---- one part after the other
 
@@ -64,3 +64,8 @@ passing_numbers n =
 pub no_negative_passes : (n : ℕ) → passes (os_error_kind (negsuc n)) ≡ false
 unfolding os_error_kind
 no_negative_passes n = refl
+
+-- 4 says that a signal came first, 11 that nothing can be moved yet
+pub told_apart : (passing (Some (pos 4)) (os_error_kind (pos 4)) ≡ Some Interrupted) × (passing (Some (pos 11)) (os_error_kind (pos 11)) ≡ Some WouldBlock)
+unfolding os_error_kind
+told_apart = (refl, refl)

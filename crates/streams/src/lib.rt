@@ -3,10 +3,10 @@
 // Any other failure is said in one line on standard error. What the bytes mean is not here.
 #![tactic(auto)]
 
-ghost use Rattle.std.specs.Prelude.{◌≤◌, ◌<◌, ◌≡◌, ◌&&◌, length, take, drop, is_ok, is_some, IsErr, IfOk};
+ghost use Rattle.std.specs.Prelude.{◌≤◌, ◌<◌, ◌≡◌, length, take, drop, is_ok, is_some, IsErr, IfOk};
 ghost use Rattle.std.specs.Io.KnownBytes.{ReadConsumes, Consumes, IsAtEnd, Appends};
 ghost use Rattle.std.specs.IoError.{error_kind, raw_os_error};
-ghost use Rattle.streams.specs.Streams.{ReadAfter, passes};
+ghost use Rattle.streams.specs.Streams.{ReadAfter, passing};
 
 use arrayvec::ArrayString;
 use std::fmt::Write as _;
@@ -28,19 +28,30 @@ fn say(rt: &impl Eprint, what: &str, error: &Error) {
     let _ = eprintln!(rt; "{what}: {words}");
 }
 
-// After a call that failed: it may be made again, after a wait where nothing could be moved yet. Any other failure is said,
-// and so is every one that is not the system's.
-fn after_failure(rt: &impl Eprint, what: &str, error: Error) -> io::Result<()>
-    ensures { is_ok result ≡ (is_some (raw_os_error error) && passes (error_kind error)) }
+// The kind of a failure that passes: a signal came first, or nothing can be moved yet. None of any other, and of an error
+// that is not the system's.
+fn passing(error: &Error) -> Option<ErrorKind>
+    ensures { result ≡ passing (raw_os_error error.now) (error_kind error.now) }
 {
-    let of_system = error.raw_os_error().is_some();
+    error.raw_os_error()?;
     match error.kind() {
-        ErrorKind::Interrupted if of_system => Ok(()),
-        ErrorKind::WouldBlock if of_system => {
+        ErrorKind::Interrupted => Some(ErrorKind::Interrupted),
+        ErrorKind::WouldBlock => Some(ErrorKind::WouldBlock),
+        _ => None,
+    }
+}
+
+// After a call that failed: it may be made again, after a wait where nothing could be moved yet. Any other failure is said.
+fn after_failure(rt: &impl Eprint, what: &str, error: Error) -> io::Result<()>
+    ensures { is_ok result ≡ is_some (passing (raw_os_error error) (error_kind error)) }
+{
+    match passing(&error) {
+        Some(ErrorKind::WouldBlock) => {
             thread::yield_now();
             Ok(())
         }
-        _ => {
+        Some(_) => Ok(()),
+        None => {
             say(rt, what, &error);
             Err(error)
         }

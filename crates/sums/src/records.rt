@@ -21,10 +21,7 @@ fn small(slots: u16) -> Plan {
 
 // How the record is written into `out`, and whether the first byte was touched.
 fn written(rt: &impl Print, name: &str, p: Plan, out: &mut [u8]) -> io::Result<()> {
-    match plan_text::writer::write_plan(p, out) {
-        Ok(bytes) => println!(rt; "{name}: 0,{bytes}")?,
-        Err(refusal) => print::answer(rt, name, Err(refusal))?,
-    }
+    print::answer(rt, name, plan_text::writer::write_plan(p, out))?;
     match out.first() {
         Some(b'.') => println!(rt; "  output as it was"),
         Some(_) => println!(rt; "  output written"),
