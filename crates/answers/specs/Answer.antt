@@ -54,24 +54,28 @@ NoRoom bytes = Err (Refusal.NoRoom bytes)
 pattern abbrev pub Chopped : ℕ → Answer
 Chopped job = Err (Refusal.Chopped job)
 
--- the table's column "No."
-abbrev pub number_of : {T : Type 0} → Result T Refusal → ℕ
-number_of (Ok held) = 0
-number_of (Err (Refusal.Form line)) = 1
-number_of (Err Refusal.SlotLimit) = 2
-number_of (Err Refusal.JobLimit) = 3
-number_of (Err (Refusal.Window job)) = 4
-number_of (Err (Refusal.Budget job)) = 5
-number_of (Err (Refusal.TableSlot slot)) = 6
-number_of (Err (Refusal.TableCount job)) = 7
-number_of (Err (Refusal.Overfull a b)) = 8
-number_of (Err (Refusal.Overdrawn border)) = 9
-number_of (Err Refusal.Incoherent) = 10
-number_of (Err (Refusal.Over t)) = 11
-number_of (Err (Refusal.OtherSlot t)) = 12
-number_of (Err (Refusal.WrongKind t)) = 13
-number_of (Err (Refusal.NoRoom bytes)) = 14
-number_of (Err (Refusal.Chopped job)) = 17
+-- the table's column "No.", whatever an accepted answer holds
+abbrev pub number_by : {T : Type 0} → Result T Refusal → ℕ
+number_by (Ok held) = 0
+number_by (Err (Refusal.Form line)) = 1
+number_by (Err Refusal.SlotLimit) = 2
+number_by (Err Refusal.JobLimit) = 3
+number_by (Err (Refusal.Window job)) = 4
+number_by (Err (Refusal.Budget job)) = 5
+number_by (Err (Refusal.TableSlot slot)) = 6
+number_by (Err (Refusal.TableCount job)) = 7
+number_by (Err (Refusal.Overfull a b)) = 8
+number_by (Err (Refusal.Overdrawn border)) = 9
+number_by (Err Refusal.Incoherent) = 10
+number_by (Err (Refusal.Over t)) = 11
+number_by (Err (Refusal.OtherSlot t)) = 12
+number_by (Err (Refusal.WrongKind t)) = 13
+number_by (Err (Refusal.NoRoom bytes)) = 14
+number_by (Err (Refusal.Chopped job)) = 17
+
+-- of a check, which holds nothing
+abbrev pub number_of : Answer → ℕ
+number_of = number_by
 
 -- its column "Place", where an accepted answer has the place of what it holds
 abbrev pub places_by : {T : Type 0} → (T → ℕ) → Result T Refusal → List ℕ

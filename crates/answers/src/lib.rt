@@ -3,7 +3,7 @@
 #![tactic(auto)]
 
 ghost use Rattle.std.specs.Prelude.{◌≡◌, ℕ, get_or};
-ghost use Rattle.answers.specs.Answer.{number_of, places_by};
+ghost use Rattle.answers.specs.Answer.{number_by, places_by};
 
 // What a refusal holds is its place: a line, a job, a slot, a border, a count of bytes.
 #[derive(Clone, Copy, PartialEq, Eq)]
@@ -54,7 +54,7 @@ impl Accepting for usize {
 
 // The number of an answer, as the table of refusals has it; 0 is accepted.
 pub fn number_of<T: Accepting>(answer: Result<T, Refusal>) -> u16
-    ensures { result ≡ number_of answer }
+    ensures { result ≡ number_by answer }
 {
     match answer {
         Ok(_) => 0,

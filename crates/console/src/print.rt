@@ -134,7 +134,7 @@ impl<'a> Sheet<'a> {
     pub(crate) fn refused_line(&mut self, refusal: Refusal)
         ensures { Puts longest (refused_line (Err refusal)) self.old self.new }
     {
-        let number = answers::number_of(Err(refusal));
+        let number = answers::number_of::<()>(Err(refusal));
         self.key(b"refused=");
         self.value(usize::from(number), b',');
         match refusal {
@@ -142,7 +142,7 @@ impl<'a> Sheet<'a> {
                 self.value(usize::from(a), b',');
                 self.value(usize::from(b), b'\n');
             }
-            _ => self.value(answers::first_place(Err(refusal)), b'\n'),
+            _ => self.value(answers::first_place::<()>(Err(refusal)), b'\n'),
         }
     }
 }

@@ -98,7 +98,7 @@ fn begun(c: Console, plan: Plan, used: usize, line: u16, out: &mut [u8; RUN_ROOM
 fn is_final(text: &[u8], refusal: Refusal) -> bool
     ensures { result ≡ is_final text.now (Err refusal) }
 {
-    lines::counting::has_lines(text, answers::first_place(Err(refusal))) || ENOUGH <= text.len()
+    lines::counting::has_lines(text, answers::first_place::<()>(Err(refusal))) || ENOUGH <= text.len()
 }
 
 // The plan at the start of the text, once it is there or can no longer be completed; until then None.
