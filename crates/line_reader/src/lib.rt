@@ -1,6 +1,7 @@
 // The line reader: it holds the caller's text and its place, and goes from line to line. Each function over it leaves the work to one
 // on slice and number.
 // What a line means is in lines and above.
+// What takes a key is inlined, so that the key is a constant in each use.
 #![tactic(auto)]
 
 ghost use Rattle.std.specs.Prelude.{◌≡◌, take, drop};
@@ -18,6 +19,7 @@ pub struct LineReader<'a> {
 
 // The work: where the value of the line at `at` stands. The key goes first: the LF is looked for only behind it.
 #[tactic(auto, using(lines::specs::ReadingLaws::value_other, lines::specs::ReadingLaws::key_fits, lines::specs::ReadingLaws::value_unclosed, lines::specs::ReadingLaws::value_found))]
+#[inline(always)]
 fn value_at(text: &[u8], at: usize, key: &[u8]) -> Option<ValueAt>
     ensures { result ≡ value_at text.now at key.now }
 {
@@ -49,6 +51,7 @@ impl<'a> LineReader<'a> {
     }
 
     // The line at the reader's place: where its value stands, or nothing where it is missing, is not closed or has another key.
+    #[inline(always)]
     pub fn look(self, key: &[u8]) -> Option<ValueAt>
         ensures { result ≡ value_at self.entry.text.now self.entry.at key.now }
     {
@@ -72,6 +75,7 @@ impl<'a> LineReader<'a> {
 
 // One line walked: a reader at `at` looks at its line, moves past the LF, and its place is where the next line starts.
 // Nothing where the line is missing, is not closed or has another key.
+#[inline(always)]
 pub fn find_value(text: &[u8], at: usize, key: &[u8]) -> Option<ValueAt>
     ensures { result ≡ value_at text.now at key.now }
 {
@@ -90,6 +94,7 @@ pub fn part_from(text: &[u8], start: usize, len: usize) -> &[u8]
 
 // The number on the line at `at`, which has the key.
 #[tactic(auto, using(lines::specs::ReadingLaws::field_steps))]
+#[inline(always)]
 pub fn number_field(text: &[u8], at: usize, key: &[u8]) -> Option<(u16, usize)>
     ensures { result ≡ field_at number text.now at key.now }
 {

@@ -1,6 +1,6 @@
 -- The loop that reads things of one kind into an array, once for every kind of thing.
 -- A loop's invariant is `Filling`; its laws are the start, one thing more, a refusal, and the end.
-use Rattle.std.specs.Prelude.{◌≡◌, List, [], ◌∷◌, ◌++◌, ℕ, suc, ◌+◌, ◌-◌, ◌≤◌, ◌<◌, length, take, drop, set, replicate}
+use Rattle.std.specs.Prelude.{◌≡◌, List, [], ◌∷◌, ◌++◌, ℕ, suc, ◌+◌, ◌-◌, ◌≤◌, ◌<◌, length, take, set}
 use Rattle.std.proofs.Math.Path.{refl}
 use Rattle.std.proofs.Common.{sym, ap, ◌∙◌, append-nil, add-one, arith, length-set, take-suc-set, take_all}
 use Rattle.std.proofs.Math.Nat.{sub-zero}

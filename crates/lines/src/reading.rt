@@ -13,6 +13,7 @@ pub struct ValueAt {
 }
 
 // How many bytes stand before the first LF.
+#[inline(always)]
 pub fn first_lf(s: &[u8]) -> Option<usize>
     ensures { result ≡ position (λ b. b == 10) s.now }
 {
@@ -28,11 +29,12 @@ pub fn line_end(text: &[u8], at: usize) -> usize
 }
 
 // The line at `at` begins with the key. No more of the line is looked at than the key is long.
+// Inlined, as all that calls it with a key, so that the key is a constant and its bytes are compared in place.
+#[inline(always)]
 pub fn key_at(text: &[u8], at: usize, key: &[u8]) -> bool
     ensures { result ≡ begins key.now (line_here text.now at) }
 {
-    let rest = &text[at.min(text.len())..];
-    rest.starts_with(key) && !key.contains(&b'\n')
+    key == value(text, at, key.len()) && !key.iter().any(|&b| b == b'\n')
 }
 
 // The part of the caller's text that is `len` bytes from `start` on; past the end it is the shorter part, or none.
@@ -44,6 +46,7 @@ pub fn value<'a>(text: &'a [u8], start: usize, len: usize) -> &'a [u8]
 }
 
 // The number that at most four digits make.
+#[inline(always)]
 #[tactic(auto, using(crate::proofs::Steps::digits_done, crate::proofs::Steps::digits_on, crate::proofs::Steps::digits_low, crate::proofs::Steps::digits_high, crate::proofs::Steps::room))]
 fn digits_number(s: &[u8]) -> Option<u16>
     requires { length s.now ≤ 4 }
@@ -61,6 +64,7 @@ fn digits_number(s: &[u8]) -> Option<u16>
 
 // The number that the value is: 1 to 4 digits and no leading zero.
 #[tactic(auto, using(crate::specs::ReadingLaws::number_long, crate::specs::ReadingLaws::number_none, crate::specs::ReadingLaws::number_zero, crate::specs::ReadingLaws::number_one, crate::specs::ReadingLaws::number_more))]
+#[inline(always)]
 pub fn read_number(s: &[u8]) -> Option<u16>
     ensures { result ≡ number s.now }
 {
