@@ -36,12 +36,12 @@ abbrev pub Taken : {A : Type 0} → Lines → Option (A × ℕ) → Result A Ref
 Taken before (Some v) answer after = (answer ≡ Ok v.0) × (after ≡ record before { reader = record before.reader { at = v.1 }; line = before.line + 1 })
 Taken before None answer after = (answer ≡ Err (Refusal.Form before.line)) × (after ≡ before)
 
--- ---- the jobs and the slots
+-- ---- the jobs, the slots and the plan
 
--- things read into a lent array
-abbrev pub read_into : {A : Type 0} → List A → Result Unit Refusal → Result (List A) Refusal
-read_into xs (Ok u) = Ok xs
-read_into xs (Err e) = Err e
+-- a thing read into a lent place
+abbrev pub read_into : {A : Type 0} → A → Result Unit Refusal → Result A Refusal
+read_into a (Ok u) = Ok a
+read_into a (Err e) = Err e
 
 -- ---- the plan at a place of a text
 

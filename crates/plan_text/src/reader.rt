@@ -2,6 +2,7 @@
 ghost use Rattle.std.specs.Prelude.{◌≡◌, ◌+◌, ◌*◌, ◌≤◌, ◌<◌, length};
 ghost use Rattle.lines.specs.Lines.{bytes, number, many, field};
 ghost use Rattle.lines.specs.Reading.{field_at, line_with};
+ghost use Rattle.plan.specs.Plan.{blank_plan};
 ghost use Rattle.plan_text.specs.Read.{level_in, next_job, next_plan, read_plan};
 ghost use Rattle.plan_text.specs.Reader.{Taken, Reads, read_into, plan_lines, last_line, plan_told, prefix_told, plan_from, plan_prefix};
 
@@ -55,6 +56,7 @@ fn level_field(text: &[u8], at: usize) -> Option<(Level, usize)>
 
 impl Lines<'_> {
     // What was found on the line, and the lines after it; nothing was found: 1 at this line.
+    #[inline(always)]
     fn taken<T>(&mut self, found: Option<(T, usize)>) -> Result<T, Refusal>
         requires { self.old.line < last_line }
         ensures { Taken self.old found result self.new }
@@ -67,6 +69,7 @@ impl Lines<'_> {
 
     // The number on the line.
     #[tactic(auto, using(crate::specs::ReaderLaws::taken_reads))]
+    #[inline(always)]
     fn number(&mut self, key: &[u8]) -> Result<u16, Refusal>
         requires { self.old.line < last_line }
         ensures { Reads (line_with number key.now) 1 self.old result self.new }
@@ -126,35 +129,32 @@ impl Lines<'_> {
         Ok(())
     }
 
-    // The lines of a plan; those of the largest have numbers.
-    fn plan(&mut self) -> Result<Plan, Refusal>
-        requires { self.old.line + plan_lines ≤ last_line }
-        ensures { Reads next_plan plan_lines self.old result self.new }
+    // The lines of a plan, into the record that was lent, so that it is not copied; those of the largest have numbers.
+    fn plan(&mut self, plan: &mut Plan) -> Result<(), Refusal>
+        requires lines { self.old.line + plan_lines ≤ last_line }
+        requires blank { plan.old ≡ blank_plan }
+        ensures { Reads next_plan plan_lines self.old (read_into plan.new result) self.new }
     {
         let slots = self.number(b"slots=")?;
         plan::slot_limit(slots)?;
         let jobs = self.number(b"jobs=")?;
         plan::job_limit(jobs)?;
-        let mut job = [plan::blank_job(); JOBS];
-        self.jobs(&mut job[..usize::from(jobs)])?;
-        let mut table = [0; SLOTS];
-        self.slots(&mut table[..usize::from(slots)])?;
-        Ok(Plan {
-            slots,
-            jobs,
-            job,
-            table,
-        })
+        plan.slots = slots;
+        plan.jobs = jobs;
+        self.jobs(&mut plan.job[..usize::from(jobs)])?;
+        self.slots(&mut plan.table[..usize::from(slots)])?;
+        Ok(())
     }
 
     // The plan from any line on: where the lines of the largest would pass the last number it is refused at its first.
-    fn numbered_plan(&mut self) -> Result<Plan, Refusal>
-        ensures { prefix_told result self.new ≡ plan_from self.old.reader.text.now self.old.reader.at self.old.line }
+    fn numbered_plan(&mut self, plan: &mut Plan) -> Result<(), Refusal>
+        requires { plan.old ≡ blank_plan }
+        ensures { prefix_told (read_into plan.new result) self.new ≡ plan_from self.old.reader.text.now self.old.reader.at self.old.line }
     {
         if LAST_LINE < usize::from(self.line) + PLAN_LINES {
             return Err(Refusal::Form(self.line));
         }
-        self.plan()
+        self.plan(plan)
     }
 }
 
@@ -165,8 +165,9 @@ pub fn plan_from(text: &[u8], at: usize, line: u16) -> PlanPrefix
 {
     let reader = LineReader { text, at };
     let mut lines = Lines { reader, line };
-    match lines.numbered_plan() {
-        Ok(plan) => PlanPrefix {
+    let mut plan = plan::blank_plan();
+    match lines.numbered_plan(&mut plan) {
+        Ok(()) => PlanPrefix {
             answer: Ok(()),
             plan,
             next: lines.reader.at,
@@ -189,25 +190,27 @@ pub fn plan_prefix(text: &[u8]) -> PlanPrefix
     plan_from(text, 0, 1)
 }
 
-// The plan that the text is, with nothing after it.
-fn whole_plan(text: &[u8]) -> Result<Plan, Refusal>
-    ensures { plan_told result ≡ read_plan text.now }
+// The plan that the text is, with nothing after it, into the record that was lent.
+fn whole_plan(text: &[u8], plan: &mut Plan) -> Result<(), Refusal>
+    requires { plan.old ≡ blank_plan }
+    ensures { plan_told (read_into plan.new result) ≡ read_plan text.now }
 {
     let reader = LineReader { text, at: 0 };
     let mut lines = Lines { reader, line: 1 };
-    let plan = lines.plan()?;
+    lines.plan(plan)?;
     if lines.reader.at < text.len() {
         return Err(Refusal::Form(lines.line));
     }
-    Ok(plan)
+    Ok(())
 }
 
 // The plan that the text is, or the refusal beside the blank plan.
 pub fn read_plan(text: &[u8]) -> PlanRead
     ensures { result ≡ read_plan text.now }
 {
-    match whole_plan(text) {
-        Ok(plan) => PlanRead {
+    let mut plan = plan::blank_plan();
+    match whole_plan(text, &mut plan) {
+        Ok(()) => PlanRead {
             answer: Ok(()),
             plan,
         },

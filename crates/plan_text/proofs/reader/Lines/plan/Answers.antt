@@ -1,11 +1,12 @@
 -- `Lines::plan`: the lines of a plan one after the other; the first that is refused is the answer.
-use Rattle.std.specs.Prelude.{◌≡◌, ◌+◌, ◌*◌, is_ok, ◌≤◌, List, ℕ}
+use Rattle.std.specs.Prelude.{◌≡◌, ◌+◌, ◌*◌, is_ok, ◌≤◌, List, ℕ, ◌++◌, length, take, drop, replicate}
 use Rattle.std.proofs.Common.{arith, sym, ap, ◌∙◌}
 use Rattle.std.proofs.lemmas.Result.{err_from_is_err_and}
 use Rattle.answers.specs.Answer.{accepted}
 use Rattle.plan.specs.declared.Job.{Job}
 use Rattle.plan.specs.declared.Plan.{Plan}
 use Rattle.plan.specs.Limits.{max_slots, max_jobs}
+use Rattle.plan.specs.Plan.{blank_job, blank_plan}
 use Rattle.words.specs.Words.{filled}
 use Rattle.lines.specs.Lines.{many, number, field}
 use Rattle.plan_text.specs.Read.{next_job, next_plan}
@@ -19,6 +20,13 @@ use Rattle.plan_text.proofs.reader.Lines.plan.Goals.{In_ok-slots, In_ok-slot_lim
 plan_made : (slots jobs : ℕ) {job job' : List Job} {table table' : List ℕ} → job ≡ job' → table ≡ table'
     → ◌≡◌ {A = Plan} (record { slots = slots; jobs = jobs; job = job; table = table }) (record { slots = slots; jobs = jobs; job = job'; table = table' })
 plan_made slots jobs e f = rw (e, f)
+
+-- the arrays of a blank plan
+job_blank : (p : Plan) → p ≡ blank_plan → p.job ≡ replicate max_jobs blank_job
+job_blank p e = ap (λ (q : Plan). q.job) e
+
+table_blank : (p : Plan) → p ≡ blank_plan → p.table ≡ replicate max_slots 0
+table_blank p e = ap (λ (q : Plan). q.table) e
 
 slots_few : (c : In_ok-slot_limit) → c.in_ok-slots.slots ≤ max_slots
 unfolding accepted
@@ -71,7 +79,7 @@ unfolding next_plan field
 returns-in_err-jobs-2 c =
     let at = goal.at.returns-in_err-jobs-2 c in
     let few = jobs_few at.In_ok-job_limit in
-    let part = part_long c.in_ok-jobs.jobs max_jobs c.from.result c.blank_job-job.result few c.from.ensures in
+    let part : length (take c.from.result c.args.plan.now.job) ≡ c.in_ok-jobs.jobs = rw (job_blank _ c.requires.blank) (part_long c.in_ok-jobs.jobs max_jobs c.from.result blank_job few c.from.ensures) in
     let p = err_from_is_err_and c.from_residual-in_err-jobs-2.result c.from_residual-in_err-jobs-2.ensures.1 in
     rw (p.1, p.2)
     (wider _ plan_lines (omega (arith, few))
@@ -87,8 +95,8 @@ returns-in_err-slots-2 c =
     let at = goal.at.returns-in_err-slots-2 c in
     let few_jobs = jobs_few at.In_ok-job_limit in
     let few_slots = slots_few at.In_ok-slot_limit in
-    let jobs = part_long c.in_ok-jobs.jobs max_jobs c.from.result c.blank_job-job.result few_jobs c.from.ensures in
-    let slots = part_long {A = ℕ} c.in_ok-slots.slots max_slots c.from-2.result 0 few_slots c.from-2.ensures in
+    let jobs : length (take c.from.result c.args.plan.now.job) ≡ c.in_ok-jobs.jobs = rw (job_blank _ c.requires.blank) (part_long c.in_ok-jobs.jobs max_jobs c.from.result blank_job few_jobs c.from.ensures) in
+    let slots : length (take c.from-2.result c.args.plan.now.table) ≡ c.in_ok-slots.slots = rw (table_blank _ c.requires.blank) (part_long {A = ℕ} c.in_ok-slots.slots max_slots c.from-2.result 0 few_slots c.from-2.ensures) in
     let p = err_from_is_err_and c.from_residual-in_err-slots-2.result c.from_residual-in_err-slots-2.ensures.1 in
     rw (p.1, p.2)
     (wider _ plan_lines (omega (arith, few_jobs, few_slots))
@@ -105,10 +113,10 @@ returns c =
     let at = goal.at.returns c in
     let few_jobs = jobs_few at.In_ok-job_limit in
     let few_slots = slots_few at.In_ok-slot_limit in
-    let jobs = part_long c.in_ok-jobs.jobs max_jobs c.from.result c.blank_job-job.result few_jobs c.from.ensures in
-    let slots = part_long {A = ℕ} c.in_ok-slots.slots max_slots c.from-2.result 0 few_slots c.from-2.ensures in
-    let job = part_fills c.in_ok-jobs.jobs max_jobs c.from.result c.blank_job-job.result few_jobs c.from.ensures c.jobs.new.jobs c.jobs.auto.jobs ∙ ap (λ z. filled max_jobs z c.jobs.new.jobs) c.blank_job-job.ensures in
-    let table = part_fills c.in_ok-slots.slots max_slots c.from-2.result 0 few_slots c.from-2.ensures c.slots.new.slots c.slots.auto.slots in
+    let jobs : length (take c.from.result c.args.plan.now.job) ≡ c.in_ok-jobs.jobs = rw (job_blank _ c.requires.blank) (part_long c.in_ok-jobs.jobs max_jobs c.from.result blank_job few_jobs c.from.ensures) in
+    let slots : length (take c.from-2.result c.args.plan.now.table) ≡ c.in_ok-slots.slots = rw (table_blank _ c.requires.blank) (part_long {A = ℕ} c.in_ok-slots.slots max_slots c.from-2.result 0 few_slots c.from-2.ensures) in
+    let job : c.jobs.new.jobs ++ drop c.from.result c.args.plan.now.job ≡ filled max_jobs blank_job c.jobs.new.jobs = rw (job_blank _ c.requires.blank) (part_fills c.in_ok-jobs.jobs max_jobs c.from.result blank_job few_jobs c.from.ensures c.jobs.new.jobs (rw (job_blank _ c.requires.blank) at c.jobs.auto.jobs)) in
+    let table : c.slots.new.slots ++ drop c.from-2.result c.args.plan.now.table ≡ filled max_slots 0 c.slots.new.slots = rw (table_blank _ c.requires.blank) (part_fills c.in_ok-slots.slots max_slots c.from-2.result 0 few_slots c.from-2.ensures c.slots.new.slots (rw (table_blank _ c.requires.blank) at c.slots.auto.slots)) in
     let read_slots = reads_part (λ n. many n (field number "slot=")) (λ n. n) c.in_ok-slots.slots _ slots c.slots.ensures in
     wider _ plan_lines (omega (arith, few_jobs, few_slots))
     (goes_on _ _ 1 (0 + (1 + (0 + (5 * c.in_ok-jobs.jobs + (c.in_ok-slots.slots + 0))))) c.number.ensures c.in_ok-slots.was
