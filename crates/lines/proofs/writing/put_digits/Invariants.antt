@@ -1,7 +1,7 @@
--- `writing::put_number`: the digits from `i` on stand in the output, those of `rest` are left.
+-- `writing::put_digits`: the digits from `i` on stand in the output, those of `rest` are left.
 use Rattle.std.proofs.Common.{◌+◌, ◌-◌, ◌≤◌}
 use Rattle.lines.specs.WritingLaws.{Tail}
-use Rattle.lines.proofs.writing.put_number.Given as goal
+use Rattle.lines.proofs.writing.put_digits.Given as goal
 
 abbrev pub invariant-loop-i : goal.invariant-loop-i
 invariant-loop-i l = record {

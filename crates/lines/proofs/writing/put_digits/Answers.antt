@@ -1,13 +1,13 @@
--- `writing::put_number`: one digit more from the end, and the first one.
-use Rattle.std.proofs.Common.{◌+◌, ◌-◌, ◌≤◌, ◌≡◌, length, arith, sym, ◌∙◌, leb-true}
+-- `writing::put_digits`: one digit more from the end, and the first one.
+use Rattle.std.proofs.Common.{◌+◌, ◌-◌, ◌≤◌, ◌≡◌, length, arith, sym, ◌∙◌}
 use Rattle.lines.specs.Lines.{digits}
 use Rattle.lines.specs.WritingLaws.{digits_bound, digits_few, digits_many, tail_start, tail_more, tail_done, put_fits}
-use Rattle.lines.proofs.writing.put_number.Goals as goal
+use Rattle.lines.proofs.writing.put_digits.Goals as goal
 
 pub loop-i-init : goal.loop-i-init
 loop-i-init c =
-    let room : c.args.at + length (digits c.args.n) ≤ length c.args.out.now = rw (← c.number_len-len.ensures) (leb-true _ _ (sym c.if-not-has_room.ensures)) in
-    record { low = omega (arith, c.number_len-len.ensures, digits_bound c.args.n); tail = rw c.number_len-len.ensures (tail_start c.args.n c.args.at c.args.out.now room) }
+    let room : c.args.at + length (digits c.args.n) ≤ length c.args.out.now = rw (← c.requires.long) c.requires.room in
+    record { low = omega (arith, c.requires.long, digits_bound c.args.n); tail = rw c.requires.long (tail_start c.args.n c.args.at c.args.out.now room) }
 
 pub loop-i-preserved : goal.loop-i-preserved
 loop-i-preserved c =
