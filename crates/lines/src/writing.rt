@@ -12,7 +12,8 @@ fn has_room(room: usize, at: usize, len: usize) -> bool
     at <= room && len <= room - at
 }
 
-// All of w at `at`.
+// All of w at `at`, byte by byte: a short piece of a known length becomes a store or two, where a copy of slices asks first
+// whether the two overlap.
 #[tactic(auto, using(crate::specs::WritingLaws::put_refused, crate::specs::WritingLaws::after_refused, crate::specs::WritingLaws::after_fits))]
 pub fn put_bytes(out: &mut [u8], at: usize, w: &[u8]) -> usize
     ensures value { result ≡ place_after at w.now out.old }
@@ -21,9 +22,10 @@ pub fn put_bytes(out: &mut [u8], at: usize, w: &[u8]) -> usize
     if !has_room(out.len(), at, w.len()) {
         return at;
     }
-    let end = at + w.len();
-    out[at..end].copy_from_slice(w);
-    end
+    for (i, b) in w.iter().enumerate() {
+        out[at + i] = *b;
+    }
+    at + w.len()
 }
 
 // How many digits n has.
