@@ -1,7 +1,7 @@
--- Laws of the analysis, for its ways out: refused by 2 to 7 or 17, refused by 8, refused by 9, accepted.
+-- Laws of the analysis, for its ways out: refused by 2 to 7 or 17, refused by 8 or 9, accepted.
 use Rattle.std.specs.Prelude.{◌≡◌, List, ℤ, Err}
 use Rattle.answers.specs.declared.Refusal.{Refusal}
-use Rattle.answers.specs.Answer.{Accepted, accepted}
+use Rattle.answers.specs.Answer.{Accepted, accepted, ◌and_then◌}
 use Rattle.plan.specs.declared.Plan.{Plan}
 use Rattle.intervals.specs.declared.Layout.{Layout}
 use Rattle.spares.specs.Spares.{row}
@@ -23,16 +23,12 @@ unfolding analysis acceptance accepted
 refused_first p e f = rw f
 
 module _ (p : Plan) (ok : well_formed p ≡ Accepted) where
-  pub refused_8 : (e : Refusal) → check8 p ≡ Err e → refused_analysis (Err e) ≡ analysis p
+  -- 8 or 9 refuse
+  pub refused_next : (e : Refusal) → (check8 p and_then check9 p) ≡ Err e → refused_analysis (Err e) ≡ analysis p
   unfolding analysis acceptance accepted
-  refused_8 e f = rw (ok, f)
+  refused_next e f = rw (ok, f)
 
-  module _ (few : check8 p ≡ Accepted) where
-    pub refused_9 : (e : Refusal) → check9 p ≡ Err e → refused_analysis (Err e) ≡ analysis p
-    unfolding analysis acceptance accepted
-    refused_9 e f = rw (ok, few, f)
-
-    -- all accept
-    pub accepted_all : check9 p ≡ Accepted → accepted_analysis p ≡ analysis p
-    unfolding analysis acceptance accepted
-    accepted_all f = rw (ok, few, f)
+  -- all accept
+  pub accepted_all : (check8 p and_then check9 p) ≡ Accepted → accepted_analysis p ≡ analysis p
+  unfolding analysis acceptance accepted
+  accepted_all f = rw (ok, f)

@@ -33,19 +33,17 @@ struct Border<'a> {
 }
 
 impl Laid {
-    ghost use Rattle.std.specs.Prelude.{IfOk, IfErr, Err};
     ghost use Rattle.answers.specs.Answer.{Accepted};
     ghost use Rattle.well_formed.specs.WellFormed.{well_formed};
     ghost use Rattle.acceptance.specs.Acceptance.{check9};
 
-    // Checks 2 to 7 and 17.
-    pub(crate) fn of(p: Plan) -> Result<Laid, Refusal>
-        ensures laid { IfOk result (λ l. (l.plan ≡ p) × (well_formed p ≡ Accepted)) }
-        ensures refused { IfErr result (λ e. well_formed p ≡ Err e) }
+    // A plan that passes them, with its intervals.
+    pub(crate) fn of(p: Plan) -> Laid
+        requires { well_formed p ≡ Accepted }
+        ensures { result.plan ≡ p }
     {
-        well_formed::well_formed(p)?;
         let layout = intervals::layout_of(&p);
-        Ok(Laid { plan: p, layout })
+        Laid { plan: p, layout }
     }
 
     // 9: between two ends a border that is short stays short, so the border before each end is looked at; where one is short

@@ -1,5 +1,5 @@
 -- `of` meets its contract: a plan that passes 2 to 7 and 17 is in order.
-use Rattle.std.proofs.Common.{rules, sym, ap, ◌∙◌}
+use Rattle.std.proofs.Common.{rules, ap}
 use Rattle.words.specs.ListLaws.{long}
 use Rattle.answers.specs.Answer.{accepted}
 use Rattle.well_formed.specs.InOrderLaws.{in_order}
@@ -8,4 +8,4 @@ use Rattle.acceptance.proofs.along.Laid.of.Goals as goal
 pub invariant_of-result : goal.invariant_of-result
 unfolding accepted
 invariant_of-result c =
-    record { in_order = in_order _ (search (rules, long)) (search rules) (ap accepted (sym c.well_formed-2.ensures ∙ c.in_ok-well_formed.was)); laid = c.layout_of-layout.ensures; whole = search (rules, long) }
+    record { in_order = in_order _ (search (rules, long)) (search rules) (ap accepted c.requires); laid = c.layout_of-layout.ensures; whole = search (rules, long) }
