@@ -14,42 +14,44 @@ use std::array;
 
 // A plan that passes 2 to 7 and 17, with its intervals laid out once.
 #[derive(Clone, Copy)]
-pub(crate) struct Laid {
-    pub plan: Plan,
+pub(crate) struct Laid<'a> {
+    pub plan: &'a Plan,
     pub layout: Layout,
-    pub ghost in_order: { InOrder plan },
-    pub ghost laid: { layout ≡ layout_of plan },
+    pub ghost in_order: { InOrder plan.now },
+    pub ghost laid: { layout ≡ layout_of plan.now },
     pub ghost whole: { length layout.interval ≡ max_intervals },
 }
 
 // A border of the table of a laid plan, 0 to N, and the table slots of each job before it.
 #[derive(Clone, Copy)]
 struct Border<'a> {
-    of: &'a Laid,
+    of: &'a Laid<'a>,
     t: u16,
     counts: [u16; JOBS],
-    ghost within: { t ≤ of.now.plan.slots },
-    ghost counted: { counts ≡ counts_at of.now.plan t },
+    ghost within: { t ≤ of.now.plan.now.slots },
+    ghost counted: { counts ≡ counts_at of.now.plan.now t },
 }
 
-impl Laid {
+impl<'a> Laid<'a> {
     ghost use Rattle.answers.specs.Answer.{Accepted};
     ghost use Rattle.well_formed.specs.WellFormed.{well_formed};
+    ghost use Rattle.well_formed.specs.InOrder.{Sized};
     ghost use Rattle.acceptance.specs.Acceptance.{check9};
 
     // A plan that passes them, with its intervals.
-    pub(crate) fn of(p: Plan) -> Laid
-        requires { well_formed p ≡ Accepted }
-        ensures { result.plan ≡ p }
+    pub(crate) fn of(p: &'a Plan) -> Laid<'a>
+        requires sized { Sized p.now }
+        requires formed { well_formed p.now ≡ Accepted }
+        ensures { result.plan.now ≡ p.now }
     {
-        let layout = intervals::layout_of(&p);
+        let layout = intervals::layout_of(p);
         Laid { plan: p, layout }
     }
 
     // 9: between two ends a border that is short stays short, so the border before each end is looked at; where one is short
     // the first such border lies after the last one looked at.
     pub(crate) fn check9(&self) -> Answer
-        ensures { result ≡ check9 self.now.plan }
+        ensures { result ≡ check9 self.now.plan.now }
     {
         let mut from = Border::first(self);
         while let Some(b) = from.next_end() {
@@ -90,7 +92,7 @@ impl<'a> Border<'a> {
     ghost use Rattle.acceptance.specs.Borders.{ends_at, overdrawn, NoneEnds, overdrawn_from};
 
     // Border 0.
-    fn first(of: &'a Laid) -> Border<'a>
+    fn first(of: &'a Laid<'a>) -> Border<'a>
         ensures { (result.of ≡ of.entry) × (result.t ≡ 0) }
     {
         Border {
@@ -102,7 +104,7 @@ impl<'a> Border<'a> {
 
     // The current HI spare is below 0.
     fn is_short(self) -> bool
-        ensures { result ≡ overdrawn self.entry.of.now.plan self.entry.t }
+        ensures { result ≡ overdrawn self.entry.of.now.plan.now self.entry.t }
     {
         let work = work_along(&self.of.plan.job, self.counts);
         let sums = spares::debt::work_by_home(&self.of.layout.home, &work);
@@ -112,8 +114,8 @@ impl<'a> Border<'a> {
     // The slot at this border is the last of a HI job.
     #[tactic(auto, unfolding(crate::specs::Borders::ends_at))]
     fn ends(self) -> bool
-        requires { self.t < self.of.now.plan.slots }
-        ensures { result ≡ ends_at self.entry.of.now.plan.job self.entry.counts (table_at self.entry.of.now.plan self.entry.t) }
+        requires { self.t < self.of.now.plan.now.slots }
+        ensures { result ≡ ends_at self.entry.of.now.plan.now.job self.entry.counts (table_at self.entry.of.now.plan.now self.entry.t) }
     {
         let k = usize::from(self.of.plan.table[usize::from(self.t)]);
         1 <= k && k <= JOBS && is_last(self.of.plan.job[k - 1], self.counts[k - 1])
@@ -121,7 +123,7 @@ impl<'a> Border<'a> {
 
     // The border after the slot at this one.
     fn next(self) -> Border<'a>
-        requires { self.t < self.of.now.plan.slots }
+        requires { self.t < self.of.now.plan.now.slots }
         ensures { (result.of ≡ self.entry.of) × (result.t ≡ self.entry.t + 1) }
     {
         let mut counts = self.counts;
@@ -135,8 +137,8 @@ impl<'a> Border<'a> {
 
     // This border or the next one at which the slot is the last of a HI job; None where no HI job ends up to N.
     fn next_end(self) -> Option<Border<'a>>
-        ensures next { IfSome result (λ b. (b.of ≡ self.entry.of) × (self.entry.t ≤ b.t) × (b.t < self.entry.of.now.plan.slots) × NoneEnds self.entry.of.now.plan self.entry.t b.t) }
-        ensures none { IfNone result (NoneEnds self.entry.of.now.plan self.entry.t self.entry.of.now.plan.slots) }
+        ensures next { IfSome result (λ b. (b.of ≡ self.entry.of) × (self.entry.t ≤ b.t) × (b.t < self.entry.of.now.plan.now.slots) × NoneEnds self.entry.of.now.plan.now self.entry.t b.t) }
+        ensures none { IfNone result (NoneEnds self.entry.of.now.plan.now self.entry.t self.entry.of.now.plan.now.slots) }
     {
         let mut b = self;
         while b.t < b.of.plan.slots {
@@ -150,7 +152,7 @@ impl<'a> Border<'a> {
 
     // The first border from here on at which the current HI spare is below 0.
     fn first_short(self) -> Answer
-        ensures { result ≡ overdrawn_from self.entry.of.now.plan self.entry.t }
+        ensures { result ≡ overdrawn_from self.entry.of.now.plan.now self.entry.t }
     {
         let mut b = self;
         while b.t < b.of.plan.slots {

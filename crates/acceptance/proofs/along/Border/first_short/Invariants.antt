@@ -4,7 +4,7 @@ use Rattle.acceptance.specs.Borders.{overdrawn_from}
 use Rattle.acceptance.proofs.along.Border.first_short.Given as goal
 
 abbrev pub invariant-loop-b : goal.invariant-loop-b
-invariant-loop-b l = (l.b.of ≡ l.initial.b.of) × (overdrawn_from l.b.of.now.plan l.b.t ≡ overdrawn_from l.initial.b.of.now.plan l.initial.b.t)
+invariant-loop-b l = (l.b.of ≡ l.initial.b.of) × (overdrawn_from l.b.of.now.plan.now l.b.t ≡ overdrawn_from l.initial.b.of.now.plan.now l.initial.b.t)
 
 abbrev pub decreases-loop-b : goal.decreases-loop-b
-decreases-loop-b l = l.b.of.now.plan.slots - l.b.t
+decreases-loop-b l = l.b.of.now.plan.now.slots - l.b.t

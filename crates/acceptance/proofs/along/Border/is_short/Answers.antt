@@ -8,4 +8,4 @@ pub returns : goal.returns
 returns c =
     let b = c.args.self in
     let ok = b.of.now.in_order in
-    c.in_debt.ensures ∙ along_layout b.of.now.plan b.t b.of.now.layout b.counts _ (omega (arith, ok.job_array, ok.jobs)) b.of.now.whole b.of.now.laid b.counted (c.work_by_home-sums.ensures ∙ ap (sums_by_home b.of.now.layout.home) c.work_along-work.ensures)
+    c.in_debt.ensures ∙ along_layout b.of.now.plan.now b.t b.of.now.layout b.counts _ (omega (arith, ok.job_array, ok.jobs)) b.of.now.whole b.of.now.laid b.counted (c.work_by_home-sums.ensures ∙ ap (sums_by_home b.of.now.layout.home) c.work_along-work.ensures)

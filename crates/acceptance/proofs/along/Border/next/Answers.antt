@@ -9,5 +9,5 @@ invariant_of-result c =
     let ok = b.of.now.in_order in
     record {
       within = omega arith;
-      counted = (rw c.from.ensures at c.count_slot.ensures) ∙ counts_on b.of.now.plan b.t b.counts b.counted (omega (arith, ok.table_array, ok.slots)) (omega (arith, ok.slots));
+      counted = (rw c.from.ensures at c.count_slot.ensures) ∙ counts_on b.of.now.plan.now b.t b.counts b.counted (omega (arith, ok.table_array, ok.slots)) (omega (arith, ok.slots));
     }

@@ -4,7 +4,7 @@ use Rattle.acceptance.specs.Borders.{NoneEnds}
 use Rattle.acceptance.proofs.along.Border.next_end.Given as goal
 
 abbrev pub invariant-loop-b : goal.invariant-loop-b
-invariant-loop-b l = (l.b.of ≡ l.initial.b.of) × (l.initial.b.t ≤ l.b.t) × NoneEnds l.b.of.now.plan l.initial.b.t l.b.t
+invariant-loop-b l = (l.b.of ≡ l.initial.b.of) × (l.initial.b.t ≤ l.b.t) × NoneEnds l.b.of.now.plan.now l.initial.b.t l.b.t
 
 abbrev pub decreases-loop-b : goal.decreases-loop-b
-decreases-loop-b l = l.b.of.now.plan.slots - l.b.t
+decreases-loop-b l = l.b.of.now.plan.now.slots - l.b.t

@@ -15,7 +15,7 @@ loop-b-init c =
 pub loop-b-preserved : goal.loop-b-preserved
 loop-b-preserved c =
     let a = c.loop-b.from in
-    let p = a.of.now.plan in
+    let p = a.of.now.plan.now in
     let ok = a.of.now.in_order in
     let b = c.in-Some.ensures.next in
     let next = c.next-from.ensures in
@@ -25,6 +25,6 @@ loop-b-preserved c =
 pub returns : goal.returns
 returns c =
     let a = c.loop-b.from in
-    let p = a.of.now.plan in
+    let p = a.of.now.plan.now in
     let ok = a.of.now.in_order in
-    past_last p ok a.t a.within (no_end p ok a.t p.slots c.in_default.ensures.none) ∙ c.loop-b.invariant.1 ∙ ap (λ (l : Laid). check9 l.plan) c.loop-b.invariant.0
+    past_last p ok a.t a.within (no_end p ok a.t p.slots c.in_default.ensures.none) ∙ c.loop-b.invariant.1 ∙ ap (λ (l : Laid). check9 l.plan.now) c.loop-b.invariant.0

@@ -8,4 +8,4 @@ use Rattle.acceptance.proofs.along.Laid.of.Goals as goal
 pub invariant_of-result : goal.invariant_of-result
 unfolding accepted
 invariant_of-result c =
-    record { in_order = in_order _ (search (rules, long)) (search rules) (ap accepted c.requires); laid = c.layout_of-layout.ensures; whole = search (rules, long) }
+    record { in_order = in_order _ c.requires.sized.0 c.requires.sized.1 (ap accepted c.requires.formed); laid = c.layout_of-layout.ensures; whole = search (rules, long) }
