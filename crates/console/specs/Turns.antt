@@ -42,6 +42,11 @@ pub record Told (e : Event) (d : List ℕ) (r : Option Turn) (d' : List ℕ) : T
   pub text : d' ≡ put 0 e.printed d
   pub short : length e.printed ≤ run_room
 
+-- the turn of a console that has moved, by how much of the text is done with and how much was printed; none where it waits
+abbrev pub turn_in : Console → Option (ℕ × ℕ) → Option Turn
+turn_in c None = None
+turn_in c (Some did) = Some (record { console = c; used = did.0; printed = did.1 })
+
 -- a console that waits prints nothing
 pub told_wait : (c : Console) (d : List ℕ) → Told (waits c) d None d
 told_wait c d = record { turn = refl; text = put_nil 0 d (omega arith); short = omega arith }

@@ -5,8 +5,8 @@ ghost use Rattle.executive.specs.Run.{start};
 ghost use Rattle.executive.specs.Step.{step};
 ghost use Rattle.console.specs.Run.{job_lines_from};
 ghost use Rattle.console.specs.Pieces.{Piece, CountsIn};
-ghost use Rattle.console.specs.Console.{fresh_console, refuses, started_event, plan_event, line_ready, line_after, stepped_event, line_event, unread_output, end_in, is_stopped, run_room, turn_of, next_turn, next_out, end_length, end_written};
-ghost use Rattle.console.specs.Turns.{Told};
+ghost use Rattle.console.specs.Console.{fresh_console, refuses, started_event, plan_event, line_ready, line_after, stepped_event, line_event, event, unread_output, end_in, is_stopped, run_room, turn_of, next_turn, next_out, end_length, end_written};
+ghost use Rattle.console.specs.Turns.{Told, turn_in};
 ghost use Rattle.console.specs.declared.run.Stage.TheVariants.{Running};
 ghost use Rattle.plan_text.specs.Reader.{plan_prefix};
 ghost use Rattle.plan_text.specs.DecidedLaws.{is_final};
@@ -61,36 +61,34 @@ pub fn fresh_console() -> Console
     }
 }
 
-// A refusal is printed, and the console stops.
-fn refused(c: Console, refusal: Refusal, out: &mut [u8; RUN_ROOM]) -> Turn
-    ensures { Told (refuses c (Err refusal)) out.old (Some result) out.new }
+// A refusal is printed, and the console stops. Here and in the events below: how many bytes of the text are done with, and
+// how many bytes were printed. The console is moved where it stands: a Turn is a large record, and is made once, by `next`.
+fn refused(c: &mut Console, refusal: Refusal, out: &mut [u8; RUN_ROOM]) -> (usize, usize)
+    ensures { Told (refuses c.old (Err refusal)) out.old (turn_in c.new (Some result)) out.new }
 {
-    Turn {
-        console: Console {
-            stage: Stage::Stopped,
-            ..c
-        },
-        used: 0,
-        printed: put_refusal(out, refusal),
-    }
+    c.stage = Stage::Stopped;
+    (0, put_refusal(out, refusal))
 }
 
 // The run of the plan that was read begins.
-fn begun(c: Console, plan: Plan, used: usize, line: u16, out: &mut [u8; RUN_ROOM]) -> Turn
-    ensures { Told (started_event c used line (start plan)) out.old (Some result) out.new }
+fn begun(
+    c: &mut Console,
+    plan: Plan,
+    used: usize,
+    line: u16,
+    out: &mut [u8; RUN_ROOM],
+) -> (usize, usize)
+    ensures { Told (started_event c.old used line (start plan)) out.old (turn_in c.new (Some result)) out.new }
 {
     let started = executive::start(plan);
     match started.answer {
         Err(refusal) => refused(c, refusal, out),
-        Ok(()) => Turn {
-            console: Console {
-                stage: Stage::Running,
-                run: started.run,
-                line,
-            },
-            used,
-            printed: 0,
-        },
+        Ok(()) => {
+            c.stage = Stage::Running;
+            c.run = started.run;
+            c.line = line;
+            (used, 0)
+        }
     }
 }
 
@@ -102,8 +100,10 @@ fn is_final(text: &[u8], refusal: Refusal) -> bool
 }
 
 // The plan at the start of the text, once it is there or can no longer be completed; until then None.
-fn take_plan(c: Console, text: &[u8], out: &mut [u8; RUN_ROOM]) -> Option<Turn>
-    ensures { Told (plan_event c text.now) out.old result out.new }
+// Never inlined: its plan and its analysis are off the stack when a step is made.
+#[inline(never)]
+fn take_plan(c: &mut Console, text: &[u8], out: &mut [u8; RUN_ROOM]) -> Option<(usize, usize)>
+    ensures { Told (plan_event c.old text.now) out.old (turn_in c.new result) out.new }
 {
     let prefix = plan_text::reader::plan_prefix(text);
     match prefix.answer {
@@ -128,8 +128,13 @@ fn line_after(line: u16) -> u16
 }
 
 // A report is applied: the step line and the next run, or a refusal.
-fn stepped(c: Console, report: Report, used: usize, out: &mut [u8; RUN_ROOM]) -> Turn
-    ensures { Told (stepped_event c used (step c.run report)) out.old (Some result) out.new }
+fn stepped(
+    c: &mut Console,
+    report: Report,
+    used: usize,
+    out: &mut [u8; RUN_ROOM],
+) -> (usize, usize)
+    ensures { Told (stepped_event c.old used (step c.old.run report)) out.old (turn_in c.new (Some result)) out.new }
 {
     let after = c.run.step(report);
     match after.answer {
@@ -137,22 +142,17 @@ fn stepped(c: Console, report: Report, used: usize, out: &mut [u8; RUN_ROOM]) ->
         Ok(()) => {
             let mut sheet = Sheet { out, at: 0 };
             sheet.step_line(&c.run, &after.choice);
-            Turn {
-                console: Console {
-                    stage: Stage::Running,
-                    run: after.run,
-                    line: line_after(c.line),
-                },
-                used,
-                printed: sheet.at,
-            }
+            c.stage = Stage::Running;
+            c.run = after.run;
+            c.line = line_after(c.line);
+            (used, sheet.at)
         }
     }
 }
 
 // The report line at the start of the text, once it can be judged; until then None.
-fn take_line(c: Console, text: &[u8], out: &mut [u8; RUN_ROOM]) -> Option<Turn>
-    ensures { Told (line_event c text.now) out.old result out.new }
+fn take_line(c: &mut Console, text: &[u8], out: &mut [u8; RUN_ROOM]) -> Option<(usize, usize)>
+    ensures { Told (line_event c.old text.now) out.old (turn_in c.new result) out.new }
 {
     if !line_ready(text) {
         return None;
@@ -160,6 +160,17 @@ fn take_line(c: Console, text: &[u8], out: &mut [u8; RUN_ROOM]) -> Option<Turn>
     match report_field(text) {
         None => Some(refused(c, Refusal::Form(c.line), out)),
         Some((report, used)) => Some(stepped(c, report, used, out)),
+    }
+}
+
+// The event of the console's stage; None where it waits.
+fn event(c: &mut Console, text: &[u8], out: &mut [u8; RUN_ROOM]) -> Option<(usize, usize)>
+    ensures { Told (event c.old text.now) out.old (turn_in c.new result) out.new }
+{
+    match c.stage {
+        Stage::Reading => take_plan(c, text, out),
+        Stage::Running => take_line(c, text, out),
+        Stage::Stopped => None,
     }
 }
 
@@ -212,11 +223,13 @@ impl Console {
         ensures used_in_bounds { IfSome result (λ turn. (turn.used ≤ length text.now) × CountsIn turn.printed out.new) }
     {
         let out = out.first_chunk_mut::<RUN_ROOM>()?;
-        match self.stage {
-            Stage::Reading => take_plan(self, text, out),
-            Stage::Running => take_line(self, text, out),
-            Stage::Stopped => None,
-        }
+        let mut console = self;
+        let (used, printed) = event(&mut console, text, out)?;
+        Some(Turn {
+            console,
+            used,
+            printed,
+        })
     }
 
     // The end of input, with this text left. An output with less than RUN_ROOM is left as it is.

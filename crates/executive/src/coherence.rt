@@ -5,10 +5,12 @@ ghost use Rattle.executive.specs.Run.{fresh_hi, fresh_lo};
 ghost use Rattle.executive.specs.MemberLaws.{Full};
 ghost use Rattle.executive.specs.Sound.{Whole};
 ghost use Rattle.intervals.specs.Layout.{layout_of};
+ghost use Rattle.well_formed.specs.WellFormed.{well_formed};
 ghost use Rattle.executive.specs.Coherent.{all_hold, coherent};
 ghost use Rattle.executive.specs.Step.{refreshed};
 
 use crate::Run;
+use answers::Answer;
 use entries::{Entry, standing_holds};
 use intervals::Layout;
 use plan::Job;
@@ -41,12 +43,22 @@ impl Run {
         Run { hi, lo, ..self }
     }
 
+    // What the plan alone is refused for. Never inlined: its copy of the plan is off the stack when the layout is worked out.
+    #[inline(never)]
+    fn form(&self) -> Answer
+        ensures { result ≡ well_formed self.now.plan }
+    {
+        well_formed::well_formed(self.plan)
+    }
+
     // The layout of a coherent run's plan, worked out once; None where a clause of coherence fails.
+    // Never inlined: its rows are off the stack in the rest of a step.
+    #[inline(never)]
     pub(crate) fn coherent_layout(&self) -> Option<Layout>
         requires { Whole self.now }
         ensures { result ≡ (if coherent self.now then Some (layout_of self.now.plan) else None) }
     {
-        well_formed::well_formed(self.plan).ok()?;
+        self.form().ok()?;
         if self.plan.slots < self.t {
             return None;
         }

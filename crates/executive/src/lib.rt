@@ -7,13 +7,14 @@ ghost use Rattle.plan.specs.Plan.{jobs_of};
 ghost use Rattle.executive.specs.declared.Stepped.{Stepped};
 ghost use Rattle.executive.specs.Run.{blank_run, start};
 ghost use Rattle.executive.specs.Coherent.{coherent};
-ghost use Rattle.executive.specs.Choice.{no_choice, choose};
-ghost use Rattle.executive.specs.Step.{refused_step, step};
+ghost use Rattle.executive.specs.Choice.{chosen, no_choice, choose};
+ghost use Rattle.executive.specs.Step.{next_run, refused_step, step};
 ghost use Rattle.executive.specs.Sound.{Whole};
 
 use acceptance::Analysis;
 use answers::{Answer, Refusal};
 use entries::{Entry, Kind};
+use going::Going;
 use plan::{Job, Plan};
 use ready::Slot;
 use spares::{Row, Spare};
@@ -145,10 +146,13 @@ impl Run {
         }
     }
 
-    // The next run and the choice that was made, or 10 to 13.
-    fn try_step(&self, report: Report) -> Result<(Run, Choice), Refusal>
+    // What the slot goes by and the choice, where the report is of slot t and fits it; or 10 to 13. The next run is worked out
+    // by `step`, so that no record of a run is handed on in a Result.
+    fn allowed(&self, report: Report) -> Result<(Going<'_>, Choice), Refusal>
         requires { Whole self.now }
-        ensures stepped { IfOk result (λ s. ◌≡◌ {A = Stepped} (record { answer = Accepted; run = s.0; choice = s.1 }) (step self.now report)) }
+        ensures going { IfOk result (λ s. s.0.run.now ≡ self.now) }
+        ensures made { IfOk result (λ s. s.1.slot ≡ chosen self.now) }
+        ensures stepped { IfOk result (λ s. ◌≡◌ {A = Stepped} (record { answer = Accepted; run = next_run self.now s.1.slot report.kind; choice = s.1 }) (step self.now report)) }
         ensures refused { IfErr result (λ e. refused_step self.now (Err e) ≡ step self.now report) }
     {
         let going = self.going()?;
@@ -159,18 +163,17 @@ impl Run {
         if !kind_fits(choice.slot, report.kind) {
             return Err(Refusal::WrongKind(self.t));
         }
-        let next = going.next_run(choice.slot, report.kind);
-        Ok((next, choice))
+        Ok((going, choice))
     }
 
     // One report: the next run with the answer, or a refusal with the same run.
     pub fn step(self, report: Report) -> Stepped
         ensures { result ≡ step self report }
     {
-        match self.try_step(report) {
-            Ok((run, choice)) => Stepped {
+        match self.allowed(report) {
+            Ok((going, choice)) => Stepped {
                 answer: Ok(()),
-                run,
+                run: going.next_run(choice.slot, report.kind),
                 choice,
             },
             Err(refusal) => Stepped {

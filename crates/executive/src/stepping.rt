@@ -66,14 +66,11 @@ impl Run {
         ensures { result ≡ reported self slot kind }
     {
         let border = self.t + 1;
-        let Slot::Job(k) = slot else {
-            let mut idle = self;
-            idle.t = border;
-            return idle;
-        };
-        let i = index(k);
         let mut next = self;
-        next.entry[i] = ran_on(kind, border, self.plan.job[i], self.entry[i]);
+        if let Slot::Job(k) = slot {
+            let i = index(k);
+            next.entry[i] = ran_on(kind, border, self.plan.job[i], self.entry[i]);
+        }
         next.t = border;
         next
     }
@@ -138,14 +135,24 @@ impl Going<'_> {
     ghost use Rattle.executive.specs.Choice.{chosen};
     ghost use Rattle.executive.specs.Step.{next_run};
 
+    // What stands after an accepted report of the slot that was chosen, its rows still the old ones: the report, expiry, the
+    // phase. Never inlined: the runs between are off the stack when the rows are worked out.
+    #[inline(never)]
+    fn after_report(&self, slot: Slot, kind: Kind) -> Run
+        requires { slot ≡ chosen self.now.run.now }
+        ensures { result ≡ judged (expired (reported self.now.run.now slot kind)) slot }
+    {
+        let told = self.run.reported(slot, kind);
+        let left = told.expired();
+        left.judged(slot)
+    }
+
     // The run after an accepted report of the slot that was chosen: the report, expiry, the phase, then both rows.
     pub(crate) fn next_run(&self, slot: Slot, kind: Kind) -> Run
         requires { slot ≡ chosen self.now.run.now }
         ensures { result ≡ next_run self.now.run.now slot kind }
     {
-        let told = self.run.reported(slot, kind);
-        let left = told.expired();
-        let judged = left.judged(slot);
+        let judged = self.after_report(slot, kind);
         judged.refreshed(self.layout)
     }
 }

@@ -13,7 +13,7 @@ use Rattle.executive.proofs.Run.coherent_layout.Goals.{After-entries_hold, Else-
 
 passes : (c : In_ok-ok) → accepted (well_formed c.args.self.now.plan) ≡ true
 unfolding accepted
-passes c = sym (ap accepted c.well_formed-2.ensures) ∙ sym c.in_ok-ok.ensures.variant
+passes c = sym (ap accepted c.form.ensures) ∙ sym c.in_ok-ok.ensures.variant
 
 few : (c : In_ok-ok) → c.args.self.now.plan.jobs ≤ max_jobs
 few c = (in_order _ c.requires.jobs c.requires.table (passes c)).jobs.1
@@ -32,7 +32,7 @@ fresh_rows-fresh-requires c =
 
 pub returns-in_err-ok : goal.returns-in_err-ok
 unfolding coherent accepted
-returns-in_err-ok c = rw (c.from_residual.ensures, sym (ap accepted c.well_formed-2.ensures) ∙ sym c.in_err-ok.ensures.variant)
+returns-in_err-ok c = rw (c.from_residual.ensures, sym (ap accepted c.form.ensures) ∙ sym c.in_err-ok.ensures.variant)
 
 pub returns-then-self : goal.returns-then-self
 unfolding coherent

@@ -1,13 +1,13 @@
--- `try_step` meets its contract: the refusals in their order, then the next run and the choice.
-use Rattle.std.proofs.Common.{◌≡◌, ◌<◌, sym, ap, ◌∙◌}
+-- `allowed` meets its contract: the refusals in their order, then what the slot goes by and the choice.
+use Rattle.std.proofs.Common.{◌≡◌, ◌<◌, refl, sym, ap, ◌∙◌}
 use Rattle.std.proofs.Math.Bool.{true}
 use Rattle.std.proofs.lemmas.Result.{err_from_is_err_and}
 use borrow.Author.Tests.{eq-eqb, ne_eqb}
 use Rattle.executive.specs.Coherent.{coherent}
-use Rattle.executive.specs.Choice.{made_choice}
+use Rattle.executive.specs.Choice.{chosen, made_choice}
 use Rattle.executive.specs.CallLaws.{slot_chosen, step_refused, other_refused, kind_refused, stepped}
-use Rattle.executive.proofs.Run.try_step.Goals as goal
-use Rattle.executive.proofs.Run.try_step.Goals.{In_ok-going}
+use Rattle.executive.proofs.Run.allowed.Goals as goal
+use Rattle.executive.proofs.Run.allowed.Goals.{In_ok-going}
 
 -- the run that goes on is this one
 holds : (c : In_ok-going) → (coherent c.args.self.now ≡ true) × (c.args.self.now.t < c.args.self.now.plan.slots)
@@ -28,14 +28,16 @@ returns-then-not-kind_fits-clause-refused c =
     let h = holds (goal.at.returns-then-not-kind_fits-clause-refused c).In_ok-going in
     kind_refused c.args.self.now h.0 h.1 c.args.report (eq-eqb _ _ c.if-report-self.false) _ (c.choice-choice.ensures ∙ ap made_choice c.in_ok-going.ensures.going) (sym c.kind_fits.ensures ∙ c.if-not-kind_fits.true)
 
-pub next_run-next-requires : goal.next_run-next-requires
-next_run-next-requires c = slot_chosen _ _ c.choice-choice.ensures
+pub returns-clause-going : goal.returns-clause-going
+returns-clause-going c = c.in_ok-going.ensures.going
+
+pub returns-clause-made : goal.returns-clause-made
+returns-clause-made c = slot_chosen _ _ c.choice-choice.ensures ∙ ap chosen c.in_ok-going.ensures.going
 
 pub returns-clause-stepped : goal.returns-clause-stepped
 returns-clause-stepped c =
     let h = holds (goal.at.returns-clause-stepped c).In_ok-going in
-    let e = c.in_ok-going.ensures.going in
-    stepped c.args.self.now h.0 h.1 c.args.report (eq-eqb _ _ c.if-report-self.false) _ (c.choice-choice.ensures ∙ ap made_choice e) (sym c.kind_fits.ensures ∙ c.if-not-kind_fits.false) _ (rw e at c.next_run-next.ensures)
+    stepped c.args.self.now h.0 h.1 c.args.report (eq-eqb _ _ c.if-report-self.false) _ (c.choice-choice.ensures ∙ ap made_choice c.in_ok-going.ensures.going) (sym c.kind_fits.ensures ∙ c.if-not-kind_fits.false) _ refl
 
 pub going-requires : goal.going-requires
 going-requires c = c.requires
