@@ -67,11 +67,12 @@ impl Run {
     {
         let border = self.t + 1;
         let mut next = self;
-        if let Slot::Job(k) = slot {
-            let i = index(k);
-            next.entry[i] = ran_on(kind, border, self.plan.job[i], self.entry[i]);
-        }
         next.t = border;
+        let Slot::Job(k) = slot else {
+            return next;
+        };
+        let i = index(k);
+        next.entry[i] = ran_on(kind, border, self.plan.job[i], self.entry[i]);
         next
     }
 
