@@ -208,15 +208,15 @@ fn whole_plan(text: &[u8], plan: &mut Plan) -> Result<(), Refusal>
 pub fn read_plan(text: &[u8]) -> PlanRead
     ensures { result ≡ read_plan text.now }
 {
-    let mut plan = plan::blank_plan();
-    match whole_plan(text, &mut plan) {
-        Ok(()) => PlanRead {
-            answer: Ok(()),
-            plan,
-        },
-        Err(refusal) => PlanRead {
+    let mut read = PlanRead {
+        answer: Ok(()),
+        plan: plan::blank_plan(),
+    };
+    if let Err(refusal) = whole_plan(text, &mut read.plan) {
+        read = PlanRead {
             answer: Err(refusal),
             plan: plan::blank_plan(),
-        },
+        };
     }
+    read
 }
