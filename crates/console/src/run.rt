@@ -96,7 +96,8 @@ fn begun(
 fn is_final(text: &[u8], refusal: Refusal) -> bool
     ensures { result ≡ is_final text.now (Err refusal) }
 {
-    lines::counting::has_lines(text, answers::first_place::<()>(Err(refusal))) || ENOUGH <= text.len()
+    lines::counting::has_lines(text, answers::first_place::<()>(Err(refusal)))
+        || ENOUGH <= text.len()
 }
 
 // The plan at the start of the text, once it is there or can no longer be completed; until then None.
@@ -128,12 +129,7 @@ fn line_after(line: u16) -> u16
 }
 
 // A report is applied: the step line and the next run, or a refusal.
-fn stepped(
-    c: &mut Console,
-    report: Report,
-    used: usize,
-    out: &mut [u8; RUN_ROOM],
-) -> (usize, usize)
+fn stepped(c: &mut Console, report: Report, used: usize, out: &mut [u8; RUN_ROOM]) -> (usize, usize)
     ensures { Told (stepped_event c.old used (step c.old.run report)) out.old (turn_in c.new (Some result)) out.new }
 {
     let after = c.run.step(report);
