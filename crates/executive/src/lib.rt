@@ -167,6 +167,8 @@ impl Run {
     }
 
     // One report: the next run with the answer, or a refusal with the same run.
+    // Never inlined: its runs are off the stack when a plan is analysed.
+    #[inline(never)]
     pub fn step(self, report: Report) -> Stepped
         ensures { result ≡ step self report }
     {
