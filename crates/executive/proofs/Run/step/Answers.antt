@@ -11,4 +11,8 @@ pub next_run-requires : goal.next_run-requires
 next_run-requires c = c.in-Ok.ensures.made ∙ ap chosen (sym c.in-Ok.ensures.going)
 
 pub returns-in-Ok : goal.returns-in-Ok
-returns-in-Ok c = rw (c.next_run.ensures, c.in-Ok.ensures.going) c.in-Ok.ensures.stepped
+returns-in-Ok c =
+    let next = c.next_run.ensures in
+    let going = c.in-Ok.ensures.going in
+    let stepped = c.in-Ok.ensures.stepped in
+    search rules
