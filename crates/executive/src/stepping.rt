@@ -67,12 +67,13 @@ impl Run {
     {
         let border = self.t + 1;
         let mut next = self;
-        next.t = border;
         let Slot::Job(k) = slot else {
+            next.t = border;
             return next;
         };
         let i = index(k);
         next.entry[i] = ran_on(kind, border, self.plan.job[i], self.entry[i]);
+        next.t = border;
         next
     }
 

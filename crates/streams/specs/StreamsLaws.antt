@@ -1,5 +1,5 @@
 -- Laws of reading and writing: bytes that come one part after the other, and go out so; which of the system's error numbers pass.
-use Rattle.std.specs.Prelude.{ℕ, ◌+◌, ◌-◌, ◌≡◌, ◌++◌, length, take, drop, Option, Some, refl, Bool, true, false, not, ◌&&◌, ◌||◌, suc, List, [], ◌∷◌, pos, negsuc, int_lt, if◌then◌else◌}
+use Rattle.std.specs.Prelude.{ℕ, ◌+◌, ◌-◌, ◌≡◌, ◌++◌, length, take, drop, Option, Some, None, ℤ, refl, Bool, true, false, not, ◌&&◌, ◌||◌, suc, List, [], ◌∷◌, pos, negsuc, int_lt, if◌then◌else◌}
 use Rattle.std.proofs.Common.{arith, eq-eqb, ne_eqb, ap, sym, subst, ◌∙◌}
 use Rattle.std.proofs.lemmas.Bool.{false≢true, lt-leb}
 use Rattle.std.proofs.Math.Seq.{take-add}
@@ -64,6 +64,12 @@ passing_numbers n =
 pub no_negative_passes : (n : ℕ) → passes (os_error_kind (negsuc n)) ≡ false
 unfolding os_error_kind
 no_negative_passes n = refl
+
+-- an error of the system's passes as its kind does
+pub passing_is : (n : ℤ) (kind : ErrorKind) → passing (Some n) kind ≡ (if passes kind then Some kind else None)
+passing_is n Interrupted = refl
+passing_is n WouldBlock = refl
+passing_is n kind = refl
 
 -- 4 says that a signal came first, 11 that nothing can be moved yet
 pub told_apart : (passing (Some (pos 4)) (os_error_kind (pos 4)) ≡ Some Interrupted) × (passing (Some (pos 11)) (os_error_kind (pos 11)) ≡ Some WouldBlock)
