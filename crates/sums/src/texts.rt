@@ -31,6 +31,8 @@ fn read_full<R: Read>(input: &mut R, buffer: &mut [u8]) -> usize
 }
 
 // How a file of data/ is answered. One that cannot be opened is said on standard error, and the other cases go on.
+// Never inlined: its buffer is off the stack when the runs are tried.
+#[inline(never)]
 fn file(rt: &(impl Files + Print + Eprint), path: &str) -> io::Result<()> {
     let mut input = match File::open(rt, path) {
         Ok(input) => input,
